@@ -1,0 +1,93 @@
+-- `calendar::day_number` meets its contract: a date's bounds come from its test, and the code counts months from 1950 where the definition counts them from year 0.
+-- Assumes nothing.
+use Prim.Native.Nat.{ℕ, _+_, _*_, _-_}
+use mathlib.Core.Path.{_≡_, sym, ap, _∙_}
+use mathlib.Core.Bool.{true}
+use native.Mathlib.Omega.{arith}
+use borrow.Author.Needs.{needs}
+use borrow.Author.Tests.{not-true, not-false}
+use Rattle.calendar.specs.declared.Date.{Date}
+use Rattle.calendar.specs.Calendar.{isDate, monthIndex, monthStart, daysBefore, dayNumber}
+use Rattle.calendar.specs.Answers.{dayOf}
+use Rattle.calendar.proofs.Laws.{DateBounds, date-bounds, day-last}
+use Rattle.calendar.proofs.day_number.Statement.{statement}
+use Rattle.calendar.proofs.day_number.Tie as tie
+
+is-date-requires : tie.Need-is-date-requires
+is-date-requires c κs = search needs
+
+returns : tie.Need-returns
+unfolding dayOf
+returns c = simp (sym (c .before .is-date .ensures) ∙ not-true _ (c .if1 .taken))
+
+-- past the first test the argument is a date
+dated : (c : tie.Else1) → isDate (c .before .before .args .date) ≡ true
+dated c = sym (c .before .is-date .ensures) ∙ not-false _ (c .if1 .left)
+
+bounds : (c : tie.Else1) → DateBounds (c .before .before .args .date)
+bounds c = date-bounds _ (dated c)
+
+-- its number, as the code counts
+number : (d : Date) (n : ℕ) → DateBounds d → n ≡ daysBefore ((d .year - 1950) * 12 + (d .month - 1)) → n + (d .day - 1) ≡ dayNumber d
+unfolding dayNumber monthStart monthIndex
+number d n b e =
+    let m : (d .year - 1950) * 12 + (d .month - 1) ≡ d .year * 12 + (d .month - 1) - 23400 = omega arith in
+    ap (λ (k : ℕ). k + (d .day - 1)) (e ∙ ap daysBefore m)
+
+cast-months : tie.Need-cast-months
+cast-months c = search needs
+
+sub-months : tie.Need-sub-months
+sub-months c = bounds (c .before) .year-low
+
+mul-months : tie.Need-mul-months
+mul-months c = search needs
+
+cast-months-2 : tie.Need-cast-months-2
+cast-months-2 c = search needs
+
+sub-months-2 : tie.Need-sub-months-2
+sub-months-2 c = bounds (c .before .before) .month-low
+
+add-months : tie.Need-add-months
+add-months c = search needs
+
+days-before-requires : tie.Need-days-before-requires
+days-before-requires c κs = omega (arith, bounds (c .before .before))
+
+cast-t9 : tie.Need-cast-t9
+cast-t9 c = search needs
+
+sub-t8 : tie.Need-sub-t8
+sub-t8 c = omega (arith, bounds (c .before .before .before .before))
+
+-- the day number and its bound at the last step
+known : (c : tie.After-struct-known3)
+    → c .before .days-before .result + (c .before .before .before .before .before .before .args .date .day - 1)
+    ≡ dayNumber (c .before .before .before .before .before .before .args .date)
+known c = number _ _ (bounds (c .before .before .before .before)) (c .before .days-before .ensures)
+
+add-t7 : tie.Need-add-t7
+add-t7 c = omega (arith, known c, day-last _ (dated (c .before .before .before .before)))
+
+returns-2 : tie.Need-returns-2
+unfolding dayOf
+returns-2 c = simp (dated (c .before .before .before .before), ← known c)
+
+pub day-number-spec : {M : Type 1} → statement M
+day-number-spec =
+    tie.close
+    (tie.spec
+    is-date-requires
+    returns
+    cast-months
+    sub-months
+    mul-months
+    cast-months-2
+    sub-months-2
+    add-months
+    days-before-requires
+    cast-t9
+    sub-t8
+    add-t7
+    returns-2)

@@ -1,0 +1,181 @@
+// The calendar of document 01: dates, day numbers and months from 1950-01-01 to 2099-12-31.
+ghost use mathlib.Core.Path.{_≡_};
+ghost use Prim.Native.Nat.{_+_, _≤_};
+ghost use Rattle.calendar.specs.Calendar.{leapYear, monthLength, isDate, daysBefore, monthOf};
+ghost use Rattle.calendar.specs.Answers.{dayOf, dateAt, monthAt, firstDay, lastDay};
+
+// A calendar date, in the widths of the claim file. Any bit pattern is a value; `is_date` tells which are dates.
+pub struct Date {
+    pub year: u16,
+    pub month: u8,
+    pub day: u8,
+}
+
+// A day number: days since 1950-01-01. A unit of its own.
+pub struct Day(pub u32);
+
+// A day number, or none.
+pub enum MaybeDay {
+    Known(Day),
+    NoDay,
+}
+
+// A date, or none.
+pub enum MaybeDate {
+    Found(Date),
+    NoDate,
+}
+
+// The index of a month, year × 12 + month − 1, or none.
+pub enum MaybeMonth {
+    Index(u32),
+    NoMonth,
+}
+
+// The day number of 2099-12-31.
+const LAST_NUMBER: u32 = 54786;
+
+// The full Gregorian leap rule, on every year.
+fn is_leap_year(year: u16) -> bool
+    ensures { λ r. ⌜ r ≡ leapYear year ⌝ }
+{
+    if year % 400 == 0 {
+        return true;
+    }
+    if year % 100 == 0 {
+        return false;
+    }
+    year % 4 == 0
+}
+
+// The number of days of a month, by its number in the year.
+fn month_length(year: u16, month: u8) -> u8
+    requires { ⌜ (1 ≤ month) × (month ≤ 12) ⌝ }
+    ensures { λ r. ⌜ r ≡ monthLength year month ⌝ }
+{
+    if month == 2 {
+        if is_leap_year(year) {
+            return 29;
+        }
+        return 28;
+    }
+    30 + (month + month / 8) % 2
+}
+
+// Whether a date stands in the calendar.
+pub fn is_date(date: Date) -> bool
+    ensures { λ r. ⌜ r ≡ isDate date ⌝ }
+{
+    if date.year < 1950 {
+        return false;
+    }
+    if date.year > 2099 {
+        return false;
+    }
+    if date.month < 1 {
+        return false;
+    }
+    if date.month > 12 {
+        return false;
+    }
+    if date.day < 1 {
+        return false;
+    }
+    date.day <= month_length(date.year, date.month)
+}
+
+// The days of the first months from January 1950 on.
+fn days_before(months: u32) -> u32
+    requires { ⌜ months ≤ 1801 ⌝ }
+    ensures { λ r. ⌜ r ≡ daysBefore months ⌝ }
+{
+    let years = months / 12;
+    let month = months % 12;
+    // Each fourth year to 2099 is a leap year: 1952, 1956, ..
+    let start = 1461 * (years + 1) / 4 - 365;
+    if month < 2 {
+        return start + 31 * month;
+    }
+    if years % 4 == 2 {
+        return start + (367 * month + 5) / 12 - 1;
+    }
+    start + (367 * month + 5) / 12 - 2
+}
+
+// The day number of a date.
+pub fn day_number(date: Date) -> MaybeDay
+    ensures { λ r. ⌜ r ≡ dayOf date ⌝ }
+{
+    if !is_date(date) {
+        return MaybeDay::NoDay;
+    }
+    let months = (date.year as u32 - 1950) * 12 + (date.month as u32 - 1);
+    MaybeDay::Known(Day(days_before(months) + (date.day as u32 - 1)))
+}
+
+// The months from January 1950 to the one that holds a day.
+fn month_of(number: u32) -> u32
+    requires { ⌜ number ≤ 54786 ⌝ }
+    ensures { λ r. ⌜ 23400 + r ≡ monthOf number ⌝ }
+{
+    // 48 months have 1,461 days, and no month starts 3 days before its share of them: this is the month, or the one after it.
+    let guess = 48 * (number + 3) / 1461;
+    if number < days_before(guess) {
+        return guess - 1;
+    }
+    guess
+}
+
+// The date of a day number.
+pub fn date_of_day(day: Day) -> MaybeDate
+    ensures { λ r. ⌜ r ≡ dateAt day ⌝ }
+{
+    let number = day.0;
+    if number > LAST_NUMBER {
+        return MaybeDate::NoDate;
+    }
+    let months = month_of(number);
+    let start = days_before(months);
+    MaybeDate::Found(Date {
+        year: (1950 + months / 12) as u16,
+        month: (months % 12 + 1) as u8,
+        day: (number - start + 1) as u8,
+    })
+}
+
+// The index of the month that holds a day.
+pub fn month_of_day(day: Day) -> MaybeMonth
+    ensures { λ r. ⌜ r ≡ monthAt day ⌝ }
+{
+    let number = day.0;
+    if number > LAST_NUMBER {
+        return MaybeMonth::NoMonth;
+    }
+    MaybeMonth::Index(23400 + month_of(number))
+}
+
+// The first day of the month with an index.
+pub fn first_day(month: u32) -> MaybeDay
+    ensures { λ r. ⌜ r ≡ firstDay month ⌝ }
+{
+    if month < 23400 {
+        return MaybeDay::NoDay;
+    }
+    if month > 25200 {
+        return MaybeDay::NoDay;
+    }
+    MaybeDay::Known(Day(days_before(month - 23400)))
+}
+
+// The last day of the month with an index.
+pub fn last_day(month: u32) -> MaybeDay
+    ensures { λ r. ⌜ r ≡ lastDay month ⌝ }
+{
+    if month < 23400 {
+        return MaybeDay::NoDay;
+    }
+    if month > 25200 {
+        return MaybeDay::NoDay;
+    }
+    MaybeDay::Known(Day(days_before(month - 23399) - 1))
+}
