@@ -1,0 +1,17 @@
+-- `Integers`: sums of signed numbers. `Sound`: what the checks 2 to 5 say. `Months`: the claim months follow one another.
+-- `Settled`: a month's thirtieths as a difference of what is settled before two days. `Additive`, `Closing`: what adds up over a cut.
+-- `Parts`, `Adds`: the same over any parts of a window. `Run`, `Spans`: the records are those of consecutive claim months.
+-- `Ranges`: thirtieths, durations and categories of the records. `Figures`: document 01's figures.
+pub mod Integers
+pub mod Sound
+pub mod Months
+mod Settled
+pub mod Additive
+pub mod Parts
+pub mod Closing
+pub mod Run
+pub mod Spans
+mod SpanCode
+pub mod Ranges
+pub mod Adds
+pub mod Figures

@@ -1,0 +1,62 @@
+-- Document 01, Claim: EP, first duration, category, and the checks 2 to 5 in the table's order.
+use Prim.Native.Nat.{ℕ, _+_, _-_, _/_}
+use mathlib.Core.Bool.{Bool, true, not, _&&_, _||_}
+use lib.Dec.{leb, eqb}
+use Rattle.calendar.specs.declared.Date.{Date}
+use Rattle.calendar.specs.Calendar.{pick, isDate, dayNumber}
+use Rattle.claim_months.specs.declared.Claim.{Claim}
+
+-- A missing date: year, month and day all zero
+unfoldable pub isMissing : Date → Bool
+isMissing d = eqb (d .year) 0 && eqb (d .month) 0 && eqb (d .day) 0
+
+-- the status is closed
+unfoldable pub isClosed : Claim → Bool
+isClosed c = eqb (c .status) 1
+
+-- the day numbers of BCD (benefit commencement date) and of the termination date
+abbrev pub bcdDay : Claim → ℕ
+bcdDay c = dayNumber (c .bcd)
+
+abbrev pub terminationDay : Claim → ℕ
+terminationDay c = dayNumber (c .termination)
+
+-- EP, the elimination period: BCD minus disability date in days
+unfoldable pub ep : Claim → ℕ
+ep c = bcdDay c - dayNumber (c .disability)
+
+-- The first duration
+unfoldable pub firstDuration : Claim → ℕ
+firstDuration c = (ep c + 15) / 30 + 1
+
+-- two day numbers are n days apart or less
+abbrev pub within : ℕ → ℕ → ℕ → Bool
+within n a b = leb a (b + n) && leb b (a + n)
+
+-- The category: the code, but max-out (4) if the termination date is 45 days or less before or after a known maximum date
+unfoldable pub category : Claim → ℕ
+category c = pick (not (isMissing (c .maximum)) && within 45 (terminationDay c) (dayNumber (c .maximum))) 4 (c .code)
+
+-- 2, date: disability or BCD no date; closed and termination no date; maximum neither date nor missing
+unfoldable pub datesSound : Claim → Bool
+datesSound c =
+    isDate (c .disability) && isDate (c .bcd) && (not (isClosed c) || isDate (c .termination))
+    && (isDate (c .maximum) || isMissing (c .maximum))
+
+-- 3, status: status above 1; open with a code, or with a termination that isn't missing; closed with code outside 1–5
+unfoldable pub statusSound : Claim → Bool
+statusSound c =
+    leb (c .status) 1
+    && pick (isClosed c) (leb 1 (c .code) && leb (c .code) 5) (eqb (c .code) 0 && isMissing (c .termination))
+
+-- 4, sequence: BCD before disability, or termination before BCD
+unfoldable pub sequenceSound : Claim → Bool
+sequenceSound c = leb (dayNumber (c .disability)) (bcdDay c) && (not (isClosed c) || leb (bcdDay c) (terminationDay c))
+
+-- 5, short elimination: EP below 15
+unfoldable pub epSound : Claim → Bool
+epSound c = leb 15 (ep c)
+
+-- the number of the first of the checks 2 to 5 that fails, or 0
+unfoldable pub claimCheck : Claim → ℕ
+claimCheck c = pick (datesSound c) (pick (statusSound c) (pick (sequenceSound c) (pick (epSound c) 0 5) 4) 3) 2

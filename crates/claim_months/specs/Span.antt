@@ -1,0 +1,58 @@
+-- What the span of a claim's month records is, and what the calls of this layer answer.
+use Prim.Native.Nat.{ℕ, _+_, _-_}
+use mathlib.Core.List.{List, [], _∷_}
+use lib.ListN.{length}
+use lib.Dec.{eqb}
+use lib.IntN.{ℤ, pos, subℕ, _*ℤ_}
+use Rattle.calendar.specs.Calendar.{pick}
+use Rattle.claim_months.specs.declared.Claim.{Claim}
+use Rattle.claim_months.specs.declared.Span.{Span}
+use Rattle.claim_months.specs.declared.MaybeSpan.{MaybeSpan}
+use Rattle.claim_months.specs.declared.MaybeSpan.the-variants.{Spanned, Refused}
+use Rattle.claim_months.specs.Claim.{claimCheck}
+use Rattle.claim_months.specs.Exposure.{windowSound, MonthRecord, monthRecords}
+use Rattle.claim_months.specs.Sums.{sumTo}
+
+-- the last of a record and those after it
+unfoldable pub lastRecord : MonthRecord → List MonthRecord → MonthRecord
+lastRecord r [] = r
+lastRecord r (s ∷ rs) = lastRecord s rs
+
+unfoldable pub spanOf : List MonthRecord → Span
+spanOf [] =
+    record { first = record { 0 = 0 }; months = 0; before = record { 0 = 0 }; through = record { 0 = 0 }; category = 0 }
+spanOf (r ∷ rs) =
+    record {
+      first = record { 0 = r .duration };
+      months = length (r ∷ rs);
+      before = record { 0 = r .B };
+      through = record { 0 = lastRecord r rs .U };
+      category = lastRecord r rs .category;
+    }
+
+-- what the span says of its month j, from 0: its U, its B, its thirtieths. Every month but the first and the last has 30
+unfoldable pub spanU : Span → ℕ → ℕ
+spanU sp j = pick (eqb (j + 1) (sp .months)) (sp .through .0) 30
+
+unfoldable pub spanB : Span → ℕ → ℕ
+spanB sp j = pick (eqb j 0) (sp .before .0) 0
+
+unfoldable pub spanThirtieths : Span → ℕ → ℤ
+spanThirtieths sp j = subℕ (spanU sp j) (spanB sp j)
+
+-- the sum of thirtieths over its first n months, each times a weight of its duration
+unfoldable pub spanWeighted : (ℕ → ℕ) → Span → ℕ → ℤ
+spanWeighted w sp n = sumTo (λ j. pos (w (sp .first .0 + j)) *ℤ spanThirtieths sp j) n
+
+-- the weight of its closing month, if it has one: the last month
+unfoldable pub spanClosing : (ℕ → ℕ → ℕ) → Span → ℕ
+spanClosing w sp = pick (eqb (sp .category) 0) 0 (w (sp .first .0 + (sp .months - 1)) (sp .category))
+
+-- the number of the first of the checks 1 to 5 that fails, or 0
+unfoldable pub exposureCheck : Claim → ℕ → ℕ → ℕ
+exposureCheck c b e = pick (windowSound b e) (claimCheck c) 1
+
+-- the span of the claim's month records in the window from day b to day e, or the number refused
+unfoldable pub spanIn : Claim → ℕ → ℕ → MaybeSpan
+spanIn c b e =
+    pick (eqb (exposureCheck c b e) 0) (Spanned (spanOf (monthRecords c b e))) (Refused (exposureCheck c b e))

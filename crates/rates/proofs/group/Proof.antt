@@ -1,0 +1,40 @@
+-- `rates::group` meets its contract: each way out has the definition's tests that lead there. Assumes nothing.
+use Prim.Native.Nat.{ℕ}
+use native.Mathlib.Omega.{arith}
+use borrow.Author.Tests.{le-leb, lt-leb}
+use Rattle.rates.specs.Rates.{groupOf}
+use Rattle.rates.proofs.group.Statement.{statement}
+use Rattle.rates.proofs.group.Tie as tie
+
+returns : tie.Need-returns
+unfolding groupOf
+returns c =
+    let d : ℕ = c .before .args .duration .0 in
+    simp (le-leb d 3 (omega arith))
+
+returns-2 : tie.Need-returns-2
+unfolding groupOf
+returns-2 c =
+    let d : ℕ = c .before .before .args .duration .0 in
+    simp (lt-leb d 3 (omega arith), le-leb d 24 (omega arith))
+
+returns-3 : tie.Need-returns-3
+unfolding groupOf
+returns-3 c =
+    let d : ℕ = c .before .before .before .args .duration .0 in
+    simp (lt-leb d 3 (omega arith), lt-leb d 24 (omega arith), le-leb d 60 (omega arith))
+
+returns-4 : tie.Need-returns-4
+unfolding groupOf
+returns-4 c =
+    let d : ℕ = c .before .before .before .before .args .duration .0 in
+    simp (lt-leb d 3 (omega arith), lt-leb d 24 (omega arith), lt-leb d 60 (omega arith), le-leb d 120 (omega arith))
+
+returns-5 : tie.Need-returns-5
+unfolding groupOf
+returns-5 c =
+    let d : ℕ = c .before .before .before .before .args .duration .0 in
+    simp (lt-leb d 3 (omega arith), lt-leb d 24 (omega arith), lt-leb d 60 (omega arith), lt-leb d 120 (omega arith))
+
+pub group-spec : {M : Type 1} → statement M
+group-spec = tie.close (tie.spec returns returns-2 returns-3 returns-4 returns-5)

@@ -1,0 +1,45 @@
+-- Document 01, Study: the lent rates, the checks 6 to 8, and the duration groups.
+-- Rates are millionths; per cell 479 recovery rates for durations 2 to 480, then 479 death rates; 1 to 64 cells.
+use Prim.Native.Nat.{ℕ, zero, suc, _+_, _-_, _*_, _/_, _%_, min}
+use mathlib.Core.Bool.{Bool, true, _&&_}
+use mathlib.Core.List.{List}
+use lib.ListN.{length, getD}
+use lib.Dec.{leb, ltb, eqb}
+use Rattle.calendar.specs.Calendar.{pick}
+
+-- the number of cells of a table
+unfoldable pub cells : List ℕ → ℕ
+cells rates = length rates / 958
+
+-- the place of a duration among a cell's 479 rates of one kind; a later duration than 480 uses 480's
+unfoldable pub place : ℕ → ℕ
+place d = min d 480 - 2
+
+-- the recovery rate of a cell at a duration, and the death rate
+unfoldable pub recoveryRate : List ℕ → ℕ → ℕ → ℕ
+recoveryRate rates cell d = getD rates (cell * 958 + place d) 0
+
+unfoldable pub deathRate : List ℕ → ℕ → ℕ → ℕ
+deathRate rates cell d = getD rates (cell * 958 + 479 + place d) 0
+
+-- 6, rate table: length not 958 times 1 to 64
+unfoldable pub tableSound : List ℕ → Bool
+tableSound rates = eqb (length rates % 958) 0 && leb 1 (cells rates) && leb (cells rates) 64
+
+-- recovery plus death rate is at most 1,000,000 at the n durations from 2 on
+unfoldable pub ratesSoundTo : List ℕ → ℕ → ℕ → Bool
+ratesSoundTo rates cell zero = true
+ratesSoundTo rates cell (suc n) =
+    ratesSoundTo rates cell n && leb (recoveryRate rates cell (n + 2) + deathRate rates cell (n + 2)) 1000000
+
+-- 8, rate: recovery plus death rate of some duration of that cell over 1,000,000
+unfoldable pub ratesSound : List ℕ → ℕ → Bool
+ratesSound rates cell = ratesSoundTo rates cell 479
+
+-- the number of the first of the checks 6, 7 (cell not in the table) and 8 that fails, or 0
+unfoldable pub rateCheck : List ℕ → ℕ → ℕ
+rateCheck rates cell = pick (tableSound rates) (pick (ltb cell (cells rates)) (pick (ratesSound rates cell) 0 8) 7) 6
+
+-- The duration groups: 1 to 3 months; 4 to 24; 25 to 60; 61 to 120; above
+unfoldable pub groupOf : ℕ → ℕ
+groupOf d = pick (leb d 3) 1 (pick (leb d 24) 2 (pick (leb d 60) 3 (pick (leb d 120) 4 5)))

@@ -1,0 +1,105 @@
+// The lent rate table: its checks, the rates of a cell at a duration, and the group of a duration.
+ghost use mathlib.Core.Path.{_≡_};
+ghost use Prim.Native.Nat.{_+_, _*_};
+ghost use lib.ListN.{getD};
+ghost use denote.Ref.{now};
+ghost use Rattle.rates.specs.Rates.{place, rateCheck, ratesSound, recoveryRate, deathRate, groupOf};
+use claim_months::Duration;
+
+// The place of a duration among a cell's 479 rates of one kind.
+fn place_of(duration: Duration) -> usize
+    ensures { λ r. ⌜ r ≡ place (duration .0) ⌝ }
+{
+    let months = duration.0;
+    if months < 2 {
+        return 0;
+    }
+    if months > 480 {
+        return 478;
+    }
+    (months - 2) as usize
+}
+
+// The rate of a cell at a duration, of the kind whose rates start `from` places into the cell; 0 past the table.
+fn rate(rates: &[u32], cell: u8, from: u16, duration: Duration) -> u32
+    ensures { λ r. ⌜ r ≡ getD (now (rates .entry)) (cell * 958 + from + place (duration .0)) 0 ⌝ }
+{
+    let at = cell as usize * 958 + from as usize + place_of(duration);
+    if at < rates.len() {
+        return rates[at];
+    }
+    0
+}
+
+// The recovery rate of a cell at a duration, in millionths; 0 past the table.
+pub fn recovery(rates: &[u32], cell: u8, duration: Duration) -> u32
+    ensures { λ r. ⌜ r ≡ recoveryRate (now (rates .entry)) cell (duration .0) ⌝ }
+{
+    rate(rates, cell, 0, duration)
+}
+
+// The death rate of a cell at a duration, in millionths; 0 past the table.
+pub fn death(rates: &[u32], cell: u8, duration: Duration) -> u32
+    ensures { λ r. ⌜ r ≡ deathRate (now (rates .entry)) cell (duration .0) ⌝ }
+{
+    rate(rates, cell, 479, duration)
+}
+
+// Whether recovery and death rate of a cell are together at most 1,000,000 at each duration from 2 to 480.
+fn sound(rates: &[u32], cell: u8) -> bool
+    ensures { λ r. ⌜ r ≡ ratesSound (now (rates .entry)) cell ⌝ }
+{
+    let mut n: u32 = 0;
+    while n < 479 {
+        let duration = Duration(n + 2);
+        let both = recovery(rates, cell, duration) as u64 + death(rates, cell, duration) as u64;
+        if both > 1000000 {
+            return false;
+        }
+        n += 1;
+    }
+    true
+}
+
+// The number of the first of the checks 6 to 8 that fails for a table and a cell, or 0.
+pub fn check(rates: &[u32], cell: u8) -> u8
+    ensures { λ r. ⌜ r ≡ rateCheck (now (rates .entry)) cell ⌝ }
+{
+    let cells = rates.len() / 958;
+    if rates.len() % 958 != 0 {
+        return 6;
+    }
+    if cells < 1 {
+        return 6;
+    }
+    if cells > 64 {
+        return 6;
+    }
+    if cell as usize >= cells {
+        return 7;
+    }
+    if sound(rates, cell) {
+        return 0;
+    }
+    8
+}
+
+// The group of a duration, 1 to 5.
+pub fn group(duration: Duration) -> u8
+    ensures { λ r. ⌜ r ≡ groupOf (duration .0) ⌝ }
+{
+    let months = duration.0;
+    if months <= 3 {
+        return 1;
+    }
+    if months <= 24 {
+        return 2;
+    }
+    if months <= 60 {
+        return 3;
+    }
+    if months <= 120 {
+        return 4;
+    }
+    5
+}

@@ -1,0 +1,126 @@
+// Prints what the rate table's checks, look-ups and groups answer at their edges.
+ghost use Prim.Native.Nat.{_<_};
+use claim_months::Duration;
+use libc::STDOUT_FILENO;
+
+fn put_word(word: &[u8]) {
+    io::write_all(STDOUT_FILENO, word);
+}
+
+fn put(n: u64) {
+    put_word(b" ");
+    io::print_decimal(STDOUT_FILENO, n);
+}
+
+// A table's length, and its check with cell 0, 1, 63, 64 and 255.
+fn put_checks(table: &[u32]) {
+    put_word(b"length");
+    put(table.len() as u64);
+    put_word(b" checks");
+    put(rates::check(table, 0) as u64);
+    put(rates::check(table, 1) as u64);
+    put(rates::check(table, 63) as u64);
+    put(rates::check(table, 64) as u64);
+    put(rates::check(table, 255) as u64);
+    put_word(b"\n");
+}
+
+// The checks of the first `count` numbers of a table.
+fn put_start(table: &[u32], count: usize) {
+    if count <= table.len() {
+        put_checks(&table[0..count]);
+    }
+}
+
+// The checks of tables of no cell, 1 cell, 64 cells and 65 cells, and of one number less or more than a cell.
+fn put_lengths(table: &[u32; 62270]) {
+    put_start(table, 0);
+    put_start(table, 957);
+    put_start(table, 958);
+    put_start(table, 959);
+    put_start(table, 61312);
+    put_start(table, 62270);
+}
+
+// The same where all rates are 0 but the recovery rate at a place and the death rate of the same cell and duration.
+fn put_tables(place: usize, recovery: u32, death: u32)
+    requires { ⌜ place < 61000 ⌝ }
+{
+    put_word(b"place");
+    put(place as u64);
+    put(recovery as u64);
+    put(death as u64);
+    put_word(b"\n");
+    let mut table = [0u32; 62270];
+    table[place] = recovery;
+    table[place + 479] = death;
+    put_lengths(&table);
+}
+
+// The recovery and the death rate of a cell at a duration.
+fn put_rates(table: &[u32], cell: u8, duration: u32) {
+    put(rates::recovery(table, cell, Duration(duration)) as u64);
+    put(rates::death(table, cell, Duration(duration)) as u64);
+}
+
+fn put_cell(table: &[u32], cell: u8) {
+    put_word(b"cell");
+    put(cell as u64);
+    put_word(b" rates");
+    put_rates(table, cell, 0);
+    put_rates(table, cell, 1);
+    put_rates(table, cell, 2);
+    put_rates(table, cell, 3);
+    put_rates(table, cell, 480);
+    put_rates(table, cell, 481);
+    put_rates(table, cell, 4294967295);
+    put_word(b"\n");
+}
+
+// A table of two cells whose numbers count up from 1.
+fn counting() -> [u32; 1916] {
+    let mut table = [0u32; 1916];
+    let mut i: u32 = 0;
+    while i < 1916 {
+        table[i as usize] = i + 1;
+        i += 1;
+    }
+    table
+}
+
+fn put_group(duration: u32) {
+    put(rates::group(Duration(duration)) as u64);
+}
+
+fn put_groups() {
+    put_word(b"groups");
+    put_group(0);
+    put_group(1);
+    put_group(3);
+    put_group(4);
+    put_group(24);
+    put_group(25);
+    put_group(60);
+    put_group(61);
+    put_group(120);
+    put_group(121);
+    put_group(4294967295);
+    put_word(b"\n");
+}
+
+fn main() {
+    // Together 1,000,000: no table is refused for a rate.
+    put_tables(0, 600000, 400000);
+    // One more, only at duration 2 of cell 0; only at duration 480.
+    put_tables(0, 600000, 400001);
+    put_tables(478, 400001, 600000);
+    // Only in cell 1, by a sum that would be 0 in 32 bits; only at duration 480 of cell 63.
+    put_tables(958, 4294967295, 1);
+    put_tables(60832, 0, 1000001);
+    let table = counting();
+    put_cell(&table, 0);
+    put_cell(&table, 1);
+    put_cell(&table, 2);
+    put_cell(&table, 255);
+    put_groups();
+}

@@ -1,0 +1,21 @@
+-- `study::month::upper` meets its contract: each way out has the test that leads there.
+-- Assumes nothing.
+use borrow.Author.Needs.{needs}
+use borrow.Author.Tests.{eq-eqb, ne-eqb}
+use Rattle.claim_months.specs.Span.{spanU}
+use Rattle.study.proofs.month.upper.Statement.{statement}
+use Rattle.study.proofs.month.upper.Tie as tie
+
+add-if1 : tie.Need-add-if1
+add-if1 c = search needs
+
+returns : tie.Need-returns
+unfolding spanU
+returns c = simp (eq-eqb _ _ (c .if1 .taken))
+
+returns-2 : tie.Need-returns-2
+unfolding spanU
+returns-2 c = simp (ne-eqb _ _ (c .if1 .left))
+
+pub upper-spec : {M : Type 1} → statement M
+upper-spec = tie.close (tie.spec add-if1 returns returns-2)

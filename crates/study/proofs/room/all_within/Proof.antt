@@ -1,0 +1,67 @@
+-- `study::room::all_within` meets its contract. Invariant: the sums from `k` on decide. Measure: the sums left.
+-- Assumes nothing.
+use Prim.Native.Nat.{_≤_, _-_}
+use mathlib.Core.Path.{_≡_, refl, sym, _∙_}
+use native.Mathlib.Omega.{arith}
+use borrow.Author.Tests.{not-true, not-false}
+use borrow.Author.Needs.{needs}
+use lib.ListN.{getD, drop}
+use lib.Dec.{leb}
+use lib.IntN.{pos, natAbs}
+use mir.Syntax.{w64}
+use mir.Val.{toZ, ofZ}
+use mir.Facts.{toZ-ofZ}
+use Rattle.study.specs.Study.{allWithin}
+use Rattle.study.proofs.Tables.{Walk, walk}
+use Rattle.study.proofs.room.all_within.Statement.{statement}
+use Rattle.study.proofs.room.all_within.Tie as tie
+
+abbrev Inv-loop : tie.InvT-loop
+Inv-loop bound sums k₀ k = (k ≤ 5) × (allWithin bound (drop k sums) ≡ allWithin bound sums)
+
+abbrev μ-loop : tie.MeasureT-loop
+μ-loop bound sums k₀ k = 5 - k
+
+walked : (c : tie.At-loop Inv-loop μ-loop)
+    → Walk 5 (pos 0) (λ x. leb (natAbs x) (c .before .args .bound)) (allWithin (c .before .args .bound)) (c .before .args .t1) (c .loop .k)
+unfolding allWithin
+walked c = walk 5 (pos 0) _ (allWithin (c .before .args .bound)) refl (λ x xs. refl) (c .before .args .t1) (c .before .good .0 .1 .0 .1) (c .loop .k) (c .loop .inv .1)
+
+loop-holds : tie.Need-loop-holds Inv-loop μ-loop
+loop-holds c = (omega arith, refl)
+
+mul-x : tie.Need-mul-x Inv-loop μ-loop
+mul-x c = omega arith
+
+array-copy-out-x : tie.Need-array-copy-out-x Inv-loop μ-loop
+array-copy-out-x c = omega arith
+
+is-within-requires : tie.Need-is-within-requires Inv-loop μ-loop
+is-within-requires c κs = search needs
+
+-- what the call says of the sum at `k`, read back from its bits
+tested : (c : tie.After-is-within Inv-loop μ-loop)
+    → c .is-within .result ≡ leb (natAbs (getD (c .before .before .before .before .args .t1) (c .before .before .before .loop .k) (pos 0))) (c .before .before .before .before .args .bound)
+tested c =
+    let x = getD (c .before .before .before .before .args .t1) (c .before .before .before .loop .k) (pos 0) in
+    let e : toZ w64 (ofZ w64 x) ≡ x = toZ-ofZ (record { sfits = c .before .x .given }) in
+    rw e at (c .is-within .ensures)
+
+returns : tie.Need-returns Inv-loop μ-loop
+returns c = walked (c .before .before .before .before) .fails (omega arith) (sym (tested (c .before)) ∙ not-true _ (c .if1 .taken))
+
+add-k : tie.Need-add-k Inv-loop μ-loop
+add-k c = omega arith
+
+loop-less : tie.Need-loop-less Inv-loop μ-loop
+loop-less c = omega arith
+
+loop-again : tie.Need-loop-again Inv-loop μ-loop
+loop-again c =
+    (omega arith, walked (c .before .before .before .before) .goes-on (omega arith) (sym (tested (c .before)) ∙ not-false _ (c .if1 .left)))
+
+returns-2 : tie.Need-returns-2 Inv-loop μ-loop
+returns-2 c = walked (c .before) .ends (omega arith)
+
+pub all-within-spec : {M : Type 1} → statement M
+all-within-spec = tie.close (tie.spec Inv-loop μ-loop loop-holds mul-x array-copy-out-x is-within-requires returns add-k loop-less loop-again returns-2)
