@@ -1,7 +1,7 @@
 -- `Integers`: sums of signed numbers. `Sound`: what the checks 2 to 5 say. `Months`: the claim months follow one another.
 -- `Settled`: a month's thirtieths as a difference of what is settled before two days. `Additive`, `Closing`: what adds up over a cut.
 -- `Parts`, `Adds`: the same over any parts of a window. `Run`, `Spans`: the records are those of consecutive claim months.
--- `Ranges`: thirtieths, durations and categories of the records. `Figures`: document 01's figures.
+-- `Ranges`: thirtieths, durations and categories of the records. `Rows`: the listing's rows. `Figures`: document 01's figures.
 pub mod Integers
 pub mod Sound
 pub mod Months
@@ -13,5 +13,7 @@ pub mod Run
 pub mod Spans
 mod SpanCode
 pub mod Ranges
+mod Signed
+mod Rows
 pub mod Adds
 pub mod Figures

@@ -19,6 +19,7 @@ use Rattle.claim_months.specs.ClaimMonths.{monthFirst, monthLast}
 use Rattle.claim_months.specs.Exposure.{windowSound, closedIn, exposedFrom, exposedTo, monthB, closingU, monthU, closingCategory, MonthRecord, thirtieths, monthRecord, monthRecords, weighted, closings}
 use Rattle.claim_months.specs.Span.{lastRecord, spanOf, spanU, spanB, spanThirtieths, spanWeighted, spanClosing}
 use Rattle.claim_months.specs.Sums.{sumTo}
+use Rattle.claim_months.specs.Helpers.{spanCategory}
 use Rattle.claim_months.proofs.Sound.{Sound}
 use Rattle.claim_months.proofs.Months.{first-starts, next-starts, last-next, starts-rise, months-end}
 use Rattle.claim_months.proofs.Parts.{WindowBounds, window-bounds}
@@ -181,16 +182,28 @@ module _ (c : Claim) (ok : Sound c) (b e : ℕ) where
         let f : max (bcdDay c) b ≤ monthLast c k = r .holds-f in
         omega tests
 
-    pub month-thirtieths : (j : ℕ) → j < suc m → thirtieths (monthRecord c b e (k + j)) ≡ spanThirtieths (runSpan c b e k m) j
-    unfolding spanThirtieths spanU spanB monthRecord
-    month-thirtieths j h =
-        ap₂ (λ (u v : ℕ). subℕ u v)
-        (is-pick (eqb (j + 1) (suc m))
+    -- what the span says of its month j
+    pub month-U : (j : ℕ) → j < suc m → monthU c b e (monthFirst c (k + j)) (monthLast c (k + j)) ≡ spanU (runSpan c b e k m) j
+    unfolding spanU
+    month-U j h =
+        is-pick (eqb (j + 1) (suc m)) (λ q. let e1 : j ≡ m = omega tests in rw e1) (λ q. U-full (k + j) (ends-early j (omega tests)))
+
+    pub month-B : (j : ℕ) → monthB b (monthFirst c (k + j)) (monthLast c (k + j)) ≡ spanB (runSpan c b e k m) j
+    unfolding spanB
+    month-B j =
+        is-pick (eqb j 0) (λ q. let e1 : k + j ≡ k = omega tests in rw e1) (λ q. B-none (k + j) (starts-late j (omega tests)))
+
+    pub month-category : (j : ℕ) → j < suc m
+        → closingCategory c b e (monthFirst c (k + j)) (monthLast c (k + j)) ≡ spanCategory (runSpan c b e k m) j
+    unfolding spanCategory
+    month-category j h =
+        is-pick (eqb (j + 1) (suc m))
         (λ q. let e1 : j ≡ m = omega tests in rw e1)
-        (λ q. U-full (k + j) (ends-early j (omega tests))))
-        (is-pick (eqb j 0)
-        (λ q. let e1 : k + j ≡ k = omega tests in rw e1)
-        (λ q. B-none (k + j) (starts-late j (omega tests))))
+        (λ q. category-none (k + j) (ends-early j (omega tests)))
+
+    pub month-thirtieths : (j : ℕ) → j < suc m → thirtieths (monthRecord c b e (k + j)) ≡ spanThirtieths (runSpan c b e k m) j
+    unfolding spanThirtieths monthRecord
+    month-thirtieths j h = ap₂ (λ (u v : ℕ). subℕ u v) (month-U j h) (month-B j)
 
     closings-run : (w : ℕ → ℕ → ℕ) (n i : ℕ) → i + n ≡ m
         → closings w (run c b e (k + i) (suc n))

@@ -165,7 +165,7 @@ fn no_months() -> Span
 }
 
 // The span of a sound claim's months in a sound window.
-fn sound_span(claim: Claim, first: u32, last: u32) -> Span
+pub(crate) fn sound_span(claim: Claim, first: u32, last: u32) -> Span
     requires { ⌜ exposureCheck claim first last ≡ 0 ⌝ }
     ensures { λ r. ⌜ r ≡ spanOf (monthRecords claim first last) ⌝ }
 {

@@ -1,6 +1,7 @@
 // Claims, claim months and months of exposure (document 01: Claim, Months of exposure).
 pub mod check;
 pub mod exposure;
+pub mod listing;
 mod month;
 
 use calendar::Date;
@@ -55,4 +56,14 @@ pub struct ClaimMonth {
     pub place: u32,
     pub first: u32,
     pub last: u32,
+}
+
+// A month record of a listing, with thirtieths `upper` − `lower`.
+pub struct Row {
+    pub duration: u32,
+    pub first: u32,
+    pub last: u32,
+    pub upper: u32,
+    pub lower: u32,
+    pub category: u8,
 }

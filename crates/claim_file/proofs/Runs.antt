@@ -1,0 +1,209 @@
+-- A file run step by step, as the code's loops go: what feeding comes to at a refused run, at no bytes, at a part block and at a
+-- whole block, and a block by what begins it and by its claims one at a time.
+-- Assumes nothing.
+use Prim.Native.Nat.{ℕ, zero, suc, _+_, _-_, _*_, _/_, _%_, _≤_, _<_}
+use mathlib.Core.Path.{_≡_, refl, sym, ap, _∙_}
+use mathlib.Core.Bool.{Bool, true, false, _&&_, and-false, and-eq-true-iff}
+use mathlib.Core.List.{List, [], _++_}
+use native.Mathlib.Omega.{arith}
+use lib.ListN.{length, take, drop, getD, length-drop, length-take}
+use lib.Seq.{take-all}
+use lib.Dec.{ltb, eqb}
+use borrow.Author.Tests.{eq-eqb, ne-eqb, lt-ltb, le-ltb, eqb-true}
+use Rattle.calendar.specs.Calendar.{pick}
+use Rattle.calendar.proofs.Tests.{by, tests, pick-is, is-pick}
+use Rattle.study.specs.declared.Study.{Study}
+use Rattle.study.specs.declared.Answer.{Answer}
+use Rattle.study.specs.Study.{opened, added}
+use Rattle.claim_file.specs.declared.FileRun.{FileRun}
+use Rattle.claim_file.specs.Block.{byteAt, twoAt, blockNumber, dateFrom, blockClaim, claimCount, framed, windowBlock, claimBlock, blockSound}
+use Rattle.claim_file.specs.Begun.{begun}
+use Rattle.claim_file.specs.Run.{goesOn, stops, claimsFrom, windowOpened, blockFed, blocksFed, partFed, fed, ended}
+use Rattle.claim_file.proofs.Tests.{claim-block, window-block}
+
+-- a sound block, as facts
+pub record Sound (due : ℕ) (bytes : List ℕ) : Type 0 where
+  pub length-so : length bytes ≡ 512
+  pub number-so : twoAt bytes 0 ≡ due
+  pub count-so : claimCount bytes ≤ 15
+  pub none-so : due ≡ 0 → claimCount bytes ≡ 0
+
+framed-number : (due : ℕ) (bytes : List ℕ) → framed due bytes ≡ true → twoAt bytes 0 ≡ due
+unfolding framed blockNumber
+framed-number due bytes h = let t = simp and-eq-true-iff at h in eqb-true _ _ (t .0 .0 .1)
+
+pub sound : (due : ℕ) (bytes : List ℕ) → blockSound due bytes ≡ true → Sound due bytes
+unfolding blockSound
+sound due bytes =
+    by (eqb due 0) (λ t. pick t (windowBlock bytes) (claimBlock due bytes) ≡ true → Sound due bytes)
+    (λ e h.
+    let w = window-block bytes h in
+    record {
+      length-so = w .length-so;
+      number-so = framed-number 0 bytes (w .framed-so) ∙ sym (eqb-true due 0 e);
+      count-so = omega arith;
+      none-so = λ _. w .count-so;
+    })
+    (λ e h.
+    let w = claim-block due bytes h in
+    record {
+      length-so = w .length-so;
+      number-so = framed-number due bytes (w .framed-so);
+      count-so = w .count-so;
+      none-so = λ z. absurd (omega tests);
+    })
+
+-- a sound block's number is below 65,536
+pub sound-due : (due : ℕ) (bytes : List ℕ) → Sound due bytes → byteAt bytes 0 < 256 → byteAt bytes 1 < 256 → due < 65536
+unfolding twoAt
+sound-due due bytes s a b = omega (arith, s .number-so)
+
+-- a block that is begun is sound, and a block that is not 512 bytes long is refused 11
+pub begun-sound : (s : Study) (due : ℕ) (bytes : List ℕ) → begun s due bytes .refused ≡ 0 → blockSound due bytes ≡ true
+unfolding begun
+begun-sound s due bytes =
+    by (blockSound due bytes)
+    (λ t. pick t (pick (eqb due 0) (opened (dateFrom bytes 16) (dateFrom bytes 20)) (record { refused = 0; study = s })) (record { refused = 11; study = s }) .refused ≡ 0 → t ≡ true)
+    (λ _ _. refl)
+    (λ _ h. absurd (omega arith))
+
+not-sound : (due : ℕ) (bytes : List ℕ) → (length bytes ≡ 512 → ⊥) → blockSound due bytes ≡ false
+not-sound due bytes h = by (blockSound due bytes) (λ t. t ≡ false) (λ e. absurd (h (sound due bytes e .length-so))) (λ _. refl)
+
+pub begun-part : (s : Study) (due : ℕ) (bytes : List ℕ) → (length bytes ≡ 512 → ⊥) → begun s due bytes ≡ record { refused = 11; study = s }
+unfolding begun
+begun-part s due bytes h = rw (not-sound due bytes h)
+
+-- a block by what begins it
+block-begun : (r : FileRun) (rates bytes : List ℕ)
+    → blockFed r rates bytes ≡ pick (eqb (begun (r .study) (r .due) bytes .refused) 0)
+    (claimsFrom r (begun (r .study) (r .due) bytes .study) rates bytes 0 (claimCount bytes))
+    (stops r (begun (r .study) (r .due) bytes .study) (begun (r .study) (r .due) bytes .refused) 0)
+unfolding blockFed begun windowOpened claimsFrom
+block-begun r rates bytes =
+    pick-is (blockSound (r .due) bytes)
+    (λ e.
+    pick-is (eqb (r .due) 0)
+    (λ z. rw (e, z, sound (r .due) bytes e .none-so (eqb-true (r .due) 0 z)))
+    (λ z. rw (e, z)))
+    (λ e. rw e)
+
+-- a refused run takes no more
+module _ (r : FileRun) (rates bytes : List ℕ) (h : r .refused ≡ 0 → ⊥) where
+  pub blocks-refused : (n : ℕ) → blocksFed r rates bytes n ≡ r
+  unfolding blocksFed
+  blocks-refused zero = refl
+  blocks-refused (suc n) = rw (ne-eqb _ _ h)
+
+  pub fed-refused : fed r rates bytes ≡ r
+  unfolding fed partFed
+  fed-refused = rw (blocks-refused (length bytes / 512), ne-eqb _ _ h)
+
+pub goes-on-so : (r : FileRun) (s : Study) → goesOn r s .refused ≡ 0
+unfolding goesOn
+goes-on-so r s = refl
+
+pub stops-refused : (r : FileRun) (s : Study) (number place : ℕ) → (number ≡ 0 → ⊥) → stops r s number place .refused ≡ 0 → ⊥
+unfolding stops
+stops-refused r s number place h = h
+
+-- no bytes leave a run as it is
+pub fed-none : (r : FileRun) (rates bytes : List ℕ) → length bytes ≡ 0 → fed r rates bytes ≡ r
+unfolding fed partFed blocksFed
+fed-none r rates bytes e = rw (e, and-false (eqb (r .refused) 0))
+
+-- a part block is refused 11
+fed-part : (r : FileRun) (rates bytes : List ℕ) → r .refused ≡ 0 → 0 < length bytes → length bytes < 512 → fed r rates bytes ≡ stops r (r .study) 11 0
+unfolding fed partFed blocksFed
+fed-part r rates bytes e a b =
+    let z : length bytes / 512 ≡ 0 = omega arith in
+    let m : 0 < length bytes % 512 = omega arith in
+    rw (z, eq-eqb _ _ e, lt-ltb _ _ m)
+
+-- a whole block, and then the rest
+pub fed-block : (r : FileRun) (rates bytes : List ℕ) → r .refused ≡ 0 → 512 ≤ length bytes
+    → fed r rates bytes ≡ fed (blockFed r rates (take 512 bytes)) rates (drop 512 bytes)
+unfolding fed blocksFed
+fed-block r rates bytes e h =
+    let l = length-drop 512 bytes in
+    let q : length bytes / 512 ≡ suc (length (drop 512 bytes) / 512) = omega arith in
+    let m : length bytes % 512 ≡ length (drop 512 bytes) % 512 = omega arith in
+    rw (q, eq-eqb _ _ e, m)
+
+-- claims one at a time
+module _ (r : FileRun) (s : Study) (rates bytes : List ℕ) (k n : ℕ) (h : k < n) where
+  claims-step : claimsFrom r s rates bytes k (n - k)
+      ≡ pick (eqb (added s (blockClaim bytes k) rates .refused) 0)
+      (claimsFrom r (added s (blockClaim bytes k) rates .study) rates bytes (k + 1) (n - (k + 1)))
+      (stops r (added s (blockClaim bytes k) rates .study) (added s (blockClaim bytes k) rates .refused) (k + 1))
+  unfolding claimsFrom
+  claims-step =
+      let e : n - k ≡ suc (n - (k + 1)) = omega arith in
+      let g : suc k ≡ k + 1 = omega arith in
+      ap (claimsFrom r s rates bytes k) e
+      ∙ ap (λ (j : ℕ). pick (eqb (added s (blockClaim bytes k) rates .refused) 0)
+      (claimsFrom r (added s (blockClaim bytes k) rates .study) rates bytes j (n - (k + 1)))
+      (stops r (added s (blockClaim bytes k) rates .study) (added s (blockClaim bytes k) rates .refused) j)) g
+
+  pub claims-on : (a : Answer) → a ≡ added s (blockClaim bytes k) rates → a .refused ≡ 0
+      → claimsFrom r s rates bytes k (n - k) ≡ claimsFrom r (a .study) rates bytes (k + 1) (n - (k + 1))
+  claims-on a q e =
+      claims-step
+      ∙ ap (λ (x : Answer). pick (eqb (x .refused) 0) (claimsFrom r (x .study) rates bytes (k + 1) (n - (k + 1))) (stops r (x .study) (x .refused) (k + 1))) (sym q)
+      ∙ ap (λ (t : Bool). pick t (claimsFrom r (a .study) rates bytes (k + 1) (n - (k + 1))) (stops r (a .study) (a .refused) (k + 1))) (eq-eqb _ _ e)
+
+  pub claims-off : (a : Answer) → a ≡ added s (blockClaim bytes k) rates → (a .refused ≡ 0 → ⊥)
+      → claimsFrom r s rates bytes k (n - k) ≡ stops r (a .study) (a .refused) (k + 1)
+  claims-off a q e =
+      claims-step
+      ∙ ap (λ (x : Answer). pick (eqb (x .refused) 0) (claimsFrom r (x .study) rates bytes (k + 1) (n - (k + 1))) (stops r (x .study) (x .refused) (k + 1))) (sym q)
+      ∙ ap (λ (t : Bool). pick t (claimsFrom r (a .study) rates bytes (k + 1) (n - (k + 1))) (stops r (a .study) (a .refused) (k + 1))) (ne-eqb _ _ e)
+
+pub claims-start : (r : FileRun) (s : Study) (rates bytes : List ℕ) (n : ℕ) → claimsFrom r s rates bytes 0 n ≡ claimsFrom r s rates bytes 0 (n - 0)
+claims-start r s rates bytes n = let e : n ≡ n - 0 = omega arith in ap (claimsFrom r s rates bytes 0) e
+
+pub claims-end : (r : FileRun) (s : Study) (rates bytes : List ℕ) (k n : ℕ) → n ≤ k → claimsFrom r s rates bytes k (n - k) ≡ goesOn r s
+unfolding claimsFrom
+claims-end r s rates bytes k n h = let e : n - k ≡ 0 = omega arith in rw e
+
+-- a block's bytes are the first 512 of those left, or all of them if they are fewer
+pub part-is : (bytes : List ℕ) (from to : ℕ) → to ≡ from + (512 - (512 - (length bytes - from)))
+    → take (to - from) (drop from bytes) ≡ take 512 (drop from bytes)
+part-is bytes from to e =
+    let l = length-drop from bytes in
+    by (ltb (length bytes - from) 512) (λ _. take (to - from) (drop from bytes) ≡ take 512 (drop from bytes))
+    (λ t. take-all (to - from) (drop from bytes) (omega tests) ∙ sym (take-all 512 (drop from bytes) (omega tests)))
+    (λ t. let q : to - from ≡ 512 = omega tests in ap (λ (n : ℕ). take n (drop from bytes)) q)
+
+-- feeding some bytes by their first block
+module _ (r : FileRun) (rates bytes part : List ℕ) (p : part ≡ take 512 bytes) (u : r .refused ≡ 0) (a : Answer) (q : a ≡ begun (r .study) (r .due) part) where
+  fed-first : 512 ≤ length bytes
+      → fed r rates bytes ≡ fed (pick (eqb (a .refused) 0) (claimsFrom r (a .study) rates part 0 (claimCount part)) (stops r (a .study) (a .refused) 0)) rates (drop 512 bytes)
+  fed-first l =
+      fed-block r rates bytes u l
+      ∙ ap (λ (b : List ℕ). fed (blockFed r rates b) rates (drop 512 bytes)) (sym p)
+      ∙ ap (λ (x : FileRun). fed x rates (drop 512 bytes)) (block-begun r rates part)
+      ∙ ap (λ (x : Answer). fed (pick (eqb (x .refused) 0) (claimsFrom r (x .study) rates part 0 (claimCount part)) (stops r (x .study) (x .refused) 0)) rates (drop 512 bytes)) (sym q)
+
+  pub fed-stops : 0 < length bytes → (a .refused ≡ 0 → ⊥) → fed r rates bytes ≡ stops r (a .study) (a .refused) 0
+  fed-stops l h =
+      by (ltb (length bytes) 512) (λ _. fed r rates bytes ≡ stops r (a .study) (a .refused) 0)
+      (λ t.
+      let s : length bytes < 512 = omega tests in
+      let w : length part ≡ 512 → ⊥ = λ z. absurd (omega (arith, ap length (p ∙ take-all 512 bytes (omega arith)))) in
+      let b : a ≡ record { refused = 11; study = r .study } = q ∙ begun-part (r .study) (r .due) part w in
+      fed-part r rates bytes u l s ∙ ap (λ (x : Answer). stops r (x .study) (x .refused) 0) (sym b))
+      (λ t.
+      fed-first (omega tests)
+      ∙ ap (λ (t : Bool). fed (pick t (claimsFrom r (a .study) rates part 0 (claimCount part)) (stops r (a .study) (a .refused) 0)) rates (drop 512 bytes)) (ne-eqb _ _ h)
+      ∙ fed-refused (stops r (a .study) (a .refused) 0) rates (drop 512 bytes) (stops-refused r (a .study) (a .refused) 0 h))
+
+  pub begun-so : a .refused ≡ 0 → Sound (r .due) part
+  begun-so h = sound (r .due) part (begun-sound (r .study) (r .due) part (ap (λ (x : Answer). x .refused) (sym q) ∙ h))
+
+  pub fed-claims : a .refused ≡ 0 → fed r rates bytes ≡ fed (claimsFrom r (a .study) rates part 0 (getD part 2 0)) rates (drop 512 bytes)
+  unfolding claimCount byteAt
+  fed-claims h =
+      let s = begun-so h .length-so in
+      fed-first (omega (arith, ap length p, length-take 512 bytes))
+      ∙ ap (λ (t : Bool). fed (pick t (claimsFrom r (a .study) rates part 0 (claimCount part)) (stops r (a .study) (a .refused) 0)) rates (drop 512 bytes)) (eq-eqb _ _ h)

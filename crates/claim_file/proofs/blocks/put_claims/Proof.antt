@@ -1,0 +1,87 @@
+-- `put_claims` meets its contract. The loop's invariant: the claims stored so far, in one run. Assumes nothing.
+use native.Mathlib.Omega.{arith}
+use mathlib.Core.Path.{_≡_, refl, sym, ap, _∙_}
+use Prim.Native.Nat.{ℕ, _+_, _*_, _-_, _≤_}
+use lib.ListN.{length, take, length-map}
+use lib.Seq.{sets}
+use Rattle.claim_file.specs.Block.{allClaimBytes, claimBytes}
+use Rattle.claim_file.proofs.Stores.{run, all-ends, all-more}
+use Rattle.claim_file.proofs.blocks.put_claims.Statement.{statement}
+use Rattle.claim_file.proofs.blocks.put_claims.Tie as tie
+
+abbrev Inv-loop : tie.InvT-loop
+Inv-loop bytes₀ block place₀ place-end bytes place = (place ≤ block .count) × (bytes ≡ sets bytes₀ 16 (allClaimBytes (take place (block .claims)))) × (length bytes ≡ 512)
+
+abbrev μ-loop : tie.MeasureT-loop
+μ-loop bytes₀ block place₀ place-end bytes place = block .count - place
+
+cast-place-end : tie.Need-cast-place-end Inv-loop μ-loop
+cast-place-end c = omega arith
+
+loop-holds : tie.Need-loop-holds Inv-loop μ-loop
+unfolding allClaimBytes
+loop-holds c = (omega arith, refl, c .before .pre .0)
+
+mul-put-claim : tie.Need-mul-put-claim Inv-loop μ-loop
+mul-put-claim c = omega arith
+
+element-copy-out-put-claim : tie.Need-element-copy-out-put-claim Inv-loop μ-loop
+element-copy-out-put-claim c = omega arith
+
+mul-put-claim-2 : tie.Need-mul-put-claim-2 Inv-loop μ-loop
+mul-put-claim-2 c = omega arith
+
+add-put-claim : tie.Need-add-put-claim Inv-loop μ-loop
+add-put-claim c = omega arith
+
+put-claim-requires : tie.Need-put-claim-requires Inv-loop μ-loop
+put-claim-requires c κs = omega arith
+
+add-place : tie.Need-add-place Inv-loop μ-loop
+add-place c = omega arith
+
+loop-less : tie.Need-loop-less Inv-loop μ-loop
+loop-less c = omega arith
+
+loop-again : tie.Need-loop-again Inv-loop μ-loop
+loop-again c =
+    let d = c .before .before in
+    let l = d .before .before .before .before .loop in
+    let s = d .before .before .before .before .before .before in
+    let cs = s .args .t1 .claims in
+    let fifteen : length cs ≡ 15 = sym (length-map cs _) ∙ s .good .0 .1 .1 .1 .0 .1 .0 .1 in (
+      omega arith,
+      run (s .args .bytes .now) (l .bytes) _ (allClaimBytes (take (l .place) cs)) (claimBytes _) 16 (16 + 32 * l .place)
+          (all-ends cs (l .place) (omega arith)) (l .inv .1) (d .put-claim .ensures)
+          ∙ ap (sets (s .args .bytes .now) 16) (all-more cs (l .place) _ (omega arith)),
+      omega arith,
+    )
+
+same-length : tie.Need-same-length Inv-loop μ-loop
+same-length c = c .before .loop .inv .2 ∙ sym (c .before .before .before .pre .0)
+
+returns : tie.Need-returns Inv-loop μ-loop
+returns c =
+    let l = c .before .loop in
+    let s = c .before .before .before .args in
+    let e : l .place ≡ s .t1 .count = omega arith in
+    l .inv .1 ∙ ap (λ (n : ℕ). sets (s .bytes .now) 16 (allClaimBytes (take n (s .t1 .claims)))) e
+
+pub put-claims-spec : {M : Type 1} → statement M
+put-claims-spec =
+    tie.close
+    (tie.spec
+    Inv-loop
+    μ-loop
+    cast-place-end
+    loop-holds
+    mul-put-claim
+    element-copy-out-put-claim
+    mul-put-claim-2
+    add-put-claim
+    put-claim-requires
+    add-place
+    loop-less
+    loop-again
+    same-length
+    returns)

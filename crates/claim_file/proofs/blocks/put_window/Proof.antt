@@ -1,0 +1,48 @@
+-- `put_window` meets its contract: head, dates, zeros and check, one run after another. Assumes nothing.
+use native.Mathlib.Omega.{arith}
+use mathlib.Core.Path.{_≡_, refl, sym, ap, _∙_}
+use borrow.Author.Needs.{needs}
+use Rattle.claim_file.proofs.Written.{window-written}
+use Rattle.claim_file.proofs.blocks.put_window.Statement.{statement}
+use Rattle.claim_file.proofs.blocks.put_window.Tie as tie
+
+put-head-requires : tie.Need-put-head-requires
+put-head-requires c κs = search needs
+
+put-date-requires : tie.Need-put-date-requires
+put-date-requires c κs = search needs
+
+put-date-requires-2 : tie.Need-put-date-requires-2
+put-date-requires-2 c κs = search needs
+
+put-zeros-requires : tie.Need-put-zeros-requires
+put-zeros-requires c κs = search needs
+
+put-check-requires : tie.Need-put-check-requires
+put-check-requires c κs = search needs
+
+same-length : tie.Need-same-length
+same-length c = search needs
+
+returns : tie.Need-returns
+returns c =
+    let k = c .before .before in
+    let z = k .before .before .before .before in
+    let t = z .before .before .before .before in
+    let f = t .before .before .before .before in
+    let h = f .before .before .before .before in
+    let s = h .before .before .before in
+    window-written (s .args .bytes .now) _ _ _ _ _ (s .args .first) (s .args .last) (s .pre)
+    (h .put-head .ensures) (f .put-date .ensures) (t .put-date2 .ensures) (z .put-zeros .ensures) (k .put-check .ensures)
+
+pub put-window-spec : {M : Type 1} → statement M
+put-window-spec =
+    tie.close
+    (tie.spec
+    put-head-requires
+    put-date-requires
+    put-date-requires-2
+    put-zeros-requires
+    put-check-requires
+    same-length
+    returns)

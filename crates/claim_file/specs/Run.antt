@@ -1,0 +1,65 @@
+-- Document 01, Claim file: a file run takes blocks 0, 1, 2, .. in order and stops at the first refusal.
+use Prim.Native.Nat.{ℕ, zero, suc, _+_, _*_, _/_, _%_}
+use mathlib.Core.Bool.{Bool, _&&_}
+use mathlib.Core.List.{List, []}
+use lib.ListN.{length, take, drop}
+use lib.Dec.{ltb, eqb}
+use Rattle.calendar.specs.Calendar.{pick}
+use Rattle.study.specs.declared.Study.{Study}
+use Rattle.study.specs.Study.{fresh, opened, added}
+use Rattle.claim_file.specs.declared.FileRun.{FileRun}
+use Rattle.claim_file.specs.Block.{dateFrom, blockClaim, claimCount, blockSound}
+
+-- a run before its first block: no study opened yet, so zero sums, no claims taken and the window 1950-01-01 alone
+unfoldable pub started : FileRun
+started = record { study = fresh 0 0; due = 0; refused = 0; block = 0; place = 0 }
+
+-- a run that goes on with a study at the next block; number, block and place are 0
+unfoldable pub goesOn : FileRun → Study → FileRun
+goesOn r s = record { study = s; due = r .due + 1; refused = 0; block = 0; place = 0 }
+
+-- a run refused at the block due: the study so far, the number, and the claim place from 1 (0 for a block fault, a bad length or a bad window)
+unfoldable pub stops : FileRun → Study → ℕ → ℕ → FileRun
+stops r s number place = record { study = s; due = r .due; refused = number; block = r .due; place = place }
+
+-- adding the n claims of a block from place k (from 0) on
+unfoldable pub claimsFrom : FileRun → Study → List ℕ → List ℕ → ℕ → ℕ → FileRun
+claimsFrom r s rates bytes k zero = goesOn r s
+claimsFrom r s rates bytes k (suc n) =
+    let a = added s (blockClaim bytes k) rates in
+    pick (eqb (a .refused) 0) (claimsFrom r (a .study) rates bytes (suc k) n) (stops r (a .study) (a .refused) (suc k))
+
+-- block 0 opens the study with its window's dates
+unfoldable pub windowOpened : FileRun → List ℕ → FileRun
+windowOpened r bytes =
+    let a = opened (dateFrom bytes 16) (dateFrom bytes 20) in
+    pick (eqb (a .refused) 0) (goesOn r (a .study)) (stops r (a .study) (a .refused) 0)
+
+-- one block
+unfoldable pub blockFed : FileRun → List ℕ → List ℕ → FileRun
+blockFed r rates bytes =
+    pick (blockSound (r .due) bytes)
+    (pick (eqb (r .due) 0) (windowOpened r bytes) (claimsFrom r (r .study) rates bytes 0 (claimCount bytes)))
+    (stops r (r .study) 11 0)
+
+-- the first n blocks of some bytes, up to the first refusal
+unfoldable pub blocksFed : FileRun → List ℕ → List ℕ → ℕ → FileRun
+blocksFed r rates bytes zero = r
+blocksFed r rates bytes (suc n) =
+    pick (eqb (r .refused) 0) (blocksFed (blockFed r rates (take 512 bytes)) rates (drop 512 bytes) n) r
+
+-- a part block at the end is refused 11 under the number due there
+unfoldable pub partFed : FileRun → ℕ → FileRun
+partFed r left = pick (eqb (r .refused) 0 && ltb 0 left) (stops r (r .study) 11 0) r
+
+-- feeding bytes to a run: its whole blocks, then what is left
+unfoldable pub fed : FileRun → List ℕ → List ℕ → FileRun
+fed r rates bytes = partFed (blocksFed r rates bytes (length bytes / 512)) (length bytes % 512)
+
+-- ending a run: a file without block 0 is refused 11
+unfoldable pub ended : FileRun → FileRun
+ended r = pick (eqb (r .refused) 0 && eqb (r .due) 0) (stops r (r .study) 11 0) r
+
+-- the run of a whole file
+unfoldable pub fileRun : List ℕ → List ℕ → FileRun
+fileRun rates bytes = ended (fed started rates bytes)

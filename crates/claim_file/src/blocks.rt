@@ -1,0 +1,401 @@
+// Blocks of 512 bytes: their check, reading and writing.
+ghost use mathlib.Core.Path.{_≡_};
+ghost use Prim.Native.Nat.{_+_, _*_, _/_, _%_, _<_, _≤_};
+ghost use denote.Ref.{now};
+ghost use lib.ListN.{length, take};
+ghost use lib.Seq.{sets};
+ghost use mathlib.Core.List.{[], _∷_, _++_};
+ghost use Rattle.claim_file.specs.Block.{claimCount, twoAt, fourAt, dateFrom, blockClaim, weightedSum, zeroFrom, claimsPadded, framed, windowBlock, claimBlock, blockSound, two, dateBytes, claimBytes, allClaimBytes, zeros, checkOf, windowBytes, blockBytes};
+ghost use Rattle.claim_file.specs.Answers.{noClaim, claimsIn, blockCheck, readOf, windowOf, writeCheck, bytesAfter, windowAfter};
+ghost use lib.Dec.{eqb};
+ghost use Rattle.calendar.specs.Calendar.{pick};
+use crate::Block;
+use crate::BlockRead;
+use crate::MaybeWindow;
+use crate::Window;
+use calendar::Date;
+use claim_months::Claim;
+
+// The number refused of a bad block.
+const BAD_BLOCK: u8 = 11;
+
+// A number of two bytes, low byte first.
+fn two_at(bytes: &[u8], at: usize) -> u16
+    requires { ⌜ at + 1 < length (now bytes) ⌝ }
+    ensures { λ r. ⌜ r ≡ twoAt (now (bytes .entry)) at ⌝ }
+{
+    bytes[at] as u16 + 256 * bytes[at + 1] as u16
+}
+
+// A number of four bytes, low byte first.
+fn four_at(bytes: &[u8], at: usize) -> u32
+    requires { ⌜ at + 3 < length (now bytes) ⌝ }
+    ensures { λ r. ⌜ r ≡ fourAt (now (bytes .entry)) at ⌝ }
+{
+    two_at(bytes, at) as u32 + 65536 * two_at(bytes, at + 2) as u32
+}
+
+// The date that stands at a byte.
+pub(crate) fn date_at(bytes: &[u8], at: usize) -> Date
+    requires { ⌜ at + 3 < length (now bytes) ⌝ }
+    ensures { λ r. ⌜ r ≡ dateFrom (now (bytes .entry)) at ⌝ }
+{
+    Date {
+        year: two_at(bytes, at),
+        month: bytes[at + 2],
+        day: bytes[at + 3],
+    }
+}
+
+// The claim at a place of a block, from 0.
+pub(crate) fn claim_at(bytes: &[u8], place: u8) -> Claim
+    requires { ⌜ length (now bytes) ≡ 512 ⌝ }
+    requires { ⌜ place < 15 ⌝ }
+    ensures { λ r. ⌜ r ≡ blockClaim (now (bytes .entry)) place ⌝ }
+{
+    let at = 16 + 32 * place as usize;
+    Claim {
+        number: four_at(bytes, at),
+        disability: date_at(bytes, at + 4),
+        bcd: date_at(bytes, at + 8),
+        termination: date_at(bytes, at + 12),
+        maximum: date_at(bytes, at + 16),
+        status: bytes[at + 20],
+        code: bytes[at + 21],
+        cell: bytes[at + 22],
+    }
+}
+
+// The sum of the first 510 bytes, each times its place from 1.
+fn weighted_sum(bytes: &[u8]) -> u32
+    requires { ⌜ length (now bytes) ≡ 512 ⌝ }
+    ensures { λ r. ⌜ r ≡ weightedSum (now (bytes .entry)) 510 ⌝ }
+{
+    let mut sum: u32 = 0;
+    for i in 0..510 {
+        sum += (i as u32 + 1) * bytes[i] as u32;
+    }
+    sum
+}
+
+// Whether the bytes of a part are zero.
+fn all_zero(bytes: &[u8], from: usize, count: usize) -> bool
+    requires { ⌜ from + count ≤ length (now bytes) ⌝ }
+    ensures { λ r. ⌜ r ≡ zeroFrom (now (bytes .entry)) from count ⌝ }
+{
+    for i in 0..count {
+        if bytes[from + i] != 0 {
+            return false;
+        }
+    }
+    true
+}
+
+// Whether the bytes past the fields of the first claims are zero.
+fn claims_padded(bytes: &[u8], count: u8) -> bool
+    requires { ⌜ length (now bytes) ≡ 512 ⌝ }
+    requires { ⌜ count ≤ 15 ⌝ }
+    ensures { λ r. ⌜ r ≡ claimsPadded (now (bytes .entry)) count ⌝ }
+{
+    let mut left = count as usize;
+    while left > 0 {
+        left -= 1;
+        if !all_zero(bytes, 16 + 32 * left + 23, 9) {
+            return false;
+        }
+    }
+    true
+}
+
+// Whether length, number, check and the zero bytes before 16 are those of the block due.
+fn is_framed(bytes: &[u8], due: u32) -> bool
+    ensures { λ r. ⌜ r ≡ framed due (now (bytes .entry)) ⌝ }
+{
+    if bytes.len() != 512 {
+        return false;
+    }
+    if two_at(bytes, 0) as u32 != due {
+        return false;
+    }
+    if weighted_sum(bytes) % 65521 != two_at(bytes, 510) as u32 {
+        return false;
+    }
+    all_zero(bytes, 3, 13)
+}
+
+// Whether a block is block 0 of a file.
+fn is_window_block(bytes: &[u8]) -> bool
+    ensures { λ r. ⌜ r ≡ windowBlock (now (bytes .entry)) ⌝ }
+{
+    if !is_framed(bytes, 0) {
+        return false;
+    }
+    if bytes[2] != 0 {
+        return false;
+    }
+    all_zero(bytes, 24, 486)
+}
+
+// Whether a block is the block of claims with the number due.
+fn is_claim_block(bytes: &[u8], due: u32) -> bool
+    ensures { λ r. ⌜ r ≡ claimBlock due (now (bytes .entry)) ⌝ }
+{
+    if !is_framed(bytes, due) {
+        return false;
+    }
+    let count = bytes[2];
+    if count > 15 {
+        return false;
+    }
+    if !claims_padded(bytes, count) {
+        return false;
+    }
+    all_zero(bytes, 16 + 32 * count as usize, 494 - 32 * count as usize)
+}
+
+// Whether a block is sound at the number due.
+pub(crate) fn is_sound(bytes: &[u8], due: u32) -> bool
+    ensures { λ r. ⌜ r ≡ blockSound due (now (bytes .entry)) ⌝ }
+{
+    if due == 0 {
+        return is_window_block(bytes);
+    }
+    is_claim_block(bytes, due)
+}
+
+// 0 if a block is sound at the number due, else 11.
+pub fn check(bytes: &[u8], due: u32) -> u8
+    ensures { λ r. ⌜ r ≡ blockCheck due (now (bytes .entry)) ⌝ }
+{
+    if is_sound(bytes, due) {
+        return 0;
+    }
+    BAD_BLOCK
+}
+
+// The window's dates, of block 0.
+pub fn read_window(bytes: &[u8]) -> MaybeWindow
+    ensures { λ r. ⌜ r ≡ windowOf (now (bytes .entry)) ⌝ }
+{
+    if !is_window_block(bytes) {
+        return MaybeWindow::Refused(BAD_BLOCK);
+    }
+    MaybeWindow::Known(Window {
+        first: date_at(bytes, 16),
+        last: date_at(bytes, 20),
+    })
+}
+
+// A claim of zeros.
+fn no_claim() -> Claim
+    ensures { λ r. ⌜ r ≡ noClaim ⌝ }
+{
+    let none = Date {
+        year: 0,
+        month: 0,
+        day: 0,
+    };
+    Claim {
+        number: 0,
+        disability: none,
+        bcd: none,
+        termination: none,
+        maximum: none,
+        status: 0,
+        code: 0,
+        cell: 0,
+    }
+}
+
+// The claims of a sound block, and zeros in the places past them.
+fn claims_of(bytes: &[u8], count: u8) -> [Claim; 15]
+    requires { ⌜ length (now bytes) ≡ 512 ⌝ }
+    requires { ⌜ (count ≤ 15) × (count ≡ claimCount (now bytes)) ⌝ }
+    ensures { λ r. ⌜ r ≡ claimsIn (now (bytes .entry)) 0 15 ⌝ }
+{
+    let mut claims = [no_claim(); 15];
+    for place in 0..count {
+        claims[place as usize] = claim_at(bytes, place);
+    }
+    claims
+}
+
+// A refusal gives no claims.
+fn refused_read() -> BlockRead
+    ensures { λ r. ⌜ r ≡ readOf 0 [] ⌝ }
+{
+    let claims = [no_claim(); 15];
+    BlockRead {
+        refused: BAD_BLOCK,
+        block: Block { count: 0, claims },
+    }
+}
+
+// The claims of the block with the number due.
+pub fn read(bytes: &[u8], due: u32) -> BlockRead
+    ensures { λ r. ⌜ r ≡ readOf due (now (bytes .entry)) ⌝ }
+{
+    if due == 0 {
+        return refused_read();
+    }
+    if !is_claim_block(bytes, due) {
+        return refused_read();
+    }
+    let count = bytes[2];
+    let claims = claims_of(bytes, count);
+    BlockRead {
+        refused: 0,
+        block: Block { count, claims },
+    }
+}
+
+// Stores a number in two bytes, low byte first.
+fn put_two(value: u16, at: usize, bytes: &mut [u8])
+    requires { ⌜ at + 2 ≤ length (now bytes) ⌝ }
+    ensures { λ _. ⌜ now (bytes .exit) ≡ sets (now (bytes .entry)) at (two value) ⌝ }
+{
+    bytes[at] = (value % 256) as u8;
+    bytes[at + 1] = (value / 256) as u8;
+}
+
+// Stores zeros.
+fn put_zeros(from: usize, count: usize, bytes: &mut [u8])
+    requires { ⌜ from + count ≤ length (now bytes) ⌝ }
+    ensures { λ _. ⌜ now (bytes .exit) ≡ sets (now (bytes .entry)) from (zeros count) ⌝ }
+{
+    for i in 0..count {
+        bytes[from + i] = 0;
+    }
+}
+
+// Stores a date's four bytes.
+fn put_date(date: Date, at: usize, bytes: &mut [u8])
+    requires { ⌜ at + 4 ≤ length (now bytes) ⌝ }
+    ensures { λ _. ⌜ now (bytes .exit) ≡ sets (now (bytes .entry)) at (dateBytes date) ⌝ }
+{
+    put_two(date.year, at, bytes);
+    bytes[at + 2] = date.month;
+    bytes[at + 3] = date.day;
+}
+
+// Stores a number in four bytes, low byte first.
+fn put_four(value: u32, at: usize, bytes: &mut [u8])
+    requires { ⌜ at + 4 ≤ length (now bytes) ⌝ }
+    ensures { λ _. ⌜ now (bytes .exit) ≡ sets (now (bytes .entry)) at (two (value % 65536) ++ two (value / 65536)) ⌝ }
+{
+    put_two((value % 65536) as u16, at, bytes);
+    put_two((value / 65536) as u16, at + 2, bytes);
+}
+
+// Stores a claim's four dates.
+fn put_dates(claim: Claim, at: usize, bytes: &mut [u8])
+    requires { ⌜ at + 16 ≤ length (now bytes) ⌝ }
+    ensures { λ _. ⌜ now (bytes .exit) ≡ sets (now (bytes .entry)) at (dateBytes (claim .disability) ++ (dateBytes (claim .bcd) ++ (dateBytes (claim .termination) ++ dateBytes (claim .maximum)))) ⌝ }
+{
+    put_date(claim.disability, at, bytes);
+    put_date(claim.bcd, at + 4, bytes);
+    put_date(claim.termination, at + 8, bytes);
+    put_date(claim.maximum, at + 12, bytes);
+}
+
+// Stores a claim's 32 bytes.
+fn put_claim(claim: Claim, at: usize, bytes: &mut [u8])
+    requires { ⌜ at + 32 ≤ length (now bytes) ⌝ }
+    ensures { λ _. ⌜ now (bytes .exit) ≡ sets (now (bytes .entry)) at (claimBytes claim) ⌝ }
+{
+    put_four(claim.number, at, bytes);
+    put_dates(claim, at + 4, bytes);
+    bytes[at + 20] = claim.status;
+    bytes[at + 21] = claim.code;
+    bytes[at + 22] = claim.cell;
+    put_zeros(at + 23, 9, bytes);
+}
+
+// Stores the claims of a block from byte 16 on.
+fn put_claims(block: Block, bytes: &mut [u8])
+    requires { ⌜ length (now bytes) ≡ 512 ⌝ }
+    requires { ⌜ block .count ≤ 15 ⌝ }
+    ensures { λ _. ⌜ now (bytes .exit) ≡ sets (now (bytes .entry)) 16 (allClaimBytes (take (block .count) (block .claims))) ⌝ }
+{
+    for place in 0..block.count as usize {
+        put_claim(block.claims[place], 16 + 32 * place, bytes);
+    }
+}
+
+// Stores number, count and the zeros before byte 16.
+fn put_head(number: u16, count: u8, bytes: &mut [u8])
+    requires { ⌜ length (now bytes) ≡ 512 ⌝ }
+    ensures { λ _. ⌜ now (bytes .exit) ≡ sets (now (bytes .entry)) 0 (two number ++ (count ∷ zeros 13)) ⌝ }
+{
+    put_two(number, 0, bytes);
+    bytes[2] = count;
+    put_zeros(3, 13, bytes);
+}
+
+// Stores the check of the bytes before it.
+fn put_check(bytes: &mut [u8])
+    requires { ⌜ length (now bytes) ≡ 512 ⌝ }
+    ensures { λ _. ⌜ now (bytes .exit) ≡ sets (now (bytes .entry)) 510 (two (checkOf (now (bytes .entry)))) ⌝ }
+{
+    let check = weighted_sum(bytes) % 65521;
+    put_two(check as u16, 510, bytes);
+}
+
+// Stores a whole claim block.
+fn put_block(number: u16, block: Block, bytes: &mut [u8])
+    requires { ⌜ length (now bytes) ≡ 512 ⌝ }
+    requires { ⌜ block .count ≤ 15 ⌝ }
+    ensures { λ _. ⌜ now (bytes .exit) ≡ blockBytes number (take (block .count) (block .claims)) ⌝ }
+{
+    let count = block.count;
+    let end = 16 + 32 * count as usize;
+    put_head(number, count, bytes);
+    put_claims(block, bytes);
+    put_zeros(end, 510 - end, bytes);
+    put_check(bytes);
+}
+
+// Stores block 0 of a window.
+fn put_window(first: Date, last: Date, bytes: &mut [u8])
+    requires { ⌜ length (now bytes) ≡ 512 ⌝ }
+    ensures { λ _. ⌜ now (bytes .exit) ≡ windowBytes first last ⌝ }
+{
+    put_head(0, 0, bytes);
+    put_date(first, 16, bytes);
+    put_date(last, 20, bytes);
+    put_zeros(24, 486, bytes);
+    put_check(bytes);
+}
+
+// Writes the claim block with a number: 0, or 11 with the bytes as they were.
+pub fn write(number: u32, block: Block, bytes: &mut [u8]) -> u8
+    ensures { λ r. ⌜ r ≡ writeCheck number (block .count) (length (now (bytes .entry))) ⌝ }
+    ensures { λ r. ⌜ now (bytes .exit) ≡ bytesAfter number block (now (bytes .entry)) ⌝ }
+{
+    if number < 1 {
+        return BAD_BLOCK;
+    }
+    if number > 65535 {
+        return BAD_BLOCK;
+    }
+    if block.count > 15 {
+        return BAD_BLOCK;
+    }
+    if bytes.len() != 512 {
+        return BAD_BLOCK;
+    }
+    put_block(number as u16, block, bytes);
+    0
+}
+
+// Writes block 0 of a window: 0, or 11 with the bytes as they were.
+pub fn write_window(first: Date, last: Date, bytes: &mut [u8]) -> u8
+    ensures { λ r. ⌜ r ≡ pick (eqb (length (now (bytes .entry))) 512) 0 11 ⌝ }
+    ensures { λ r. ⌜ now (bytes .exit) ≡ windowAfter first last (now (bytes .entry)) ⌝ }
+{
+    if bytes.len() != 512 {
+        return BAD_BLOCK;
+    }
+    put_window(first, last, bytes);
+    0
+}

@@ -1,0 +1,40 @@
+// The claim file (document 01: Claim file): blocks and the file run.
+pub mod blocks;
+pub mod run;
+
+use calendar::Date;
+use claim_months::Claim;
+use study::Study;
+
+// A claim block's count and claims; past the count the claims are zeros.
+pub struct Block {
+    pub count: u8,
+    pub claims: [Claim; 15],
+}
+
+// A claim block, with the number refused or 0.
+pub struct BlockRead {
+    pub refused: u8,
+    pub block: Block,
+}
+
+// The window of block 0.
+pub struct Window {
+    pub first: Date,
+    pub last: Date,
+}
+
+// The window, or the number refused.
+pub enum MaybeWindow {
+    Known(Window),
+    Refused(u8),
+}
+
+// A file run so far: its study, the number of the block due, and where it was refused, if it was: number, block and claim place.
+pub struct FileRun {
+    pub study: Study,
+    pub due: u32,
+    pub refused: u8,
+    pub block: u32,
+    pub place: u8,
+}

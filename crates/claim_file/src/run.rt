@@ -1,0 +1,145 @@
+// The file run: blocks 0, 1, 2, .. in order, up to the first refusal.
+ghost use mathlib.Core.Path.{_≡_};
+ghost use Prim.Native.Nat.{_+_, _-_, _≤_, _<_};
+ghost use denote.Ref.{now};
+ghost use lib.ListN.{length};
+ghost use Rattle.claim_file.specs.Run.{started, goesOn, stops, fed, ended, fileRun};
+ghost use Rattle.claim_file.specs.Begun.{begun};
+use crate::FileRun;
+use crate::blocks::claim_at;
+use crate::blocks::date_at;
+use crate::blocks::is_sound;
+use calendar::Date;
+use study::Answer;
+use study::Study;
+
+// Where the block that starts at a byte ends: 512 bytes on, or with the file.
+fn block_end(at: usize, len: usize) -> usize
+    requires { ⌜ at ≤ len ⌝ }
+    ensures { λ r. ⌜ r ≡ at + (512 - (512 - (len - at))) ⌝ }
+{
+    if len - at < 512 {
+        return len;
+    }
+    at + 512
+}
+
+// The study to which a block's claims are added: that of the window if the block is block 0, else the study so far. Refused 11 if
+// the block is not sound.
+fn begin(study: Study, due: u32, bytes: &[u8]) -> Answer
+    ensures { λ r. ⌜ r ≡ begun study due (now (bytes .entry)) ⌝ }
+{
+    if !is_sound(bytes, due) {
+        return Answer { refused: 11, study };
+    }
+    if due == 0 {
+        return Study::open(date_at(bytes, 16), date_at(bytes, 20));
+    }
+    Answer { refused: 0, study }
+}
+
+impl FileRun {
+    // A run before its first block: no study opened yet.
+    pub fn start() -> FileRun
+        ensures { λ r. ⌜ r ≡ started ⌝ }
+    {
+        let no_date = Date {
+            year: 0,
+            month: 0,
+            day: 0,
+        };
+        let answer = Study::open(no_date, no_date);
+        let study = answer.study;
+        FileRun {
+            study,
+            due: 0,
+            refused: 0,
+            block: 0,
+            place: 0,
+        }
+    }
+
+    // The run refused at the block due.
+    fn stopped(self, study: Study, refused: u8, place: u8) -> FileRun
+        ensures { λ r. ⌜ r ≡ stops self study refused place ⌝ }
+    {
+        FileRun {
+            study,
+            due: self.due,
+            refused,
+            block: self.due,
+            place,
+        }
+    }
+
+    // The run after a sound block whose claims were all taken.
+    fn continued(self, study: Study) -> FileRun
+        requires { ⌜ self .due < 65536 ⌝ }
+        ensures { λ r. ⌜ r ≡ goesOn self study ⌝ }
+    {
+        FileRun {
+            study,
+            due: self.due + 1,
+            refused: 0,
+            block: 0,
+            place: 0,
+        }
+    }
+
+    // The run with the blocks of some bytes taken, a part block at the end with them, up to the first refusal.
+    pub fn feed(self, rates: &[u32], bytes: &[u8]) -> FileRun
+        ensures { λ r. ⌜ r ≡ fed self (now (rates .entry)) (now (bytes .entry)) ⌝ }
+    {
+        let mut run = self;
+        if run.refused != 0 {
+            return run;
+        }
+        let mut at = 0;
+        'file: while at < bytes.len() {
+            let end = block_end(at, bytes.len());
+            let part = &bytes[at..end];
+            let begun = begin(run.study, run.due, part);
+            let mut study = begun.study;
+            if begun.refused != 0 {
+                run = run.stopped(study, begun.refused, 0);
+                break 'file;
+            }
+            let count = part[2];
+            let mut place = 0;
+            while place < count {
+                let answer = study.add(claim_at(part, place), rates);
+                let after = answer.study;
+                study = after;
+                place += 1;
+                if answer.refused != 0 {
+                    run = run.stopped(study, answer.refused, place);
+                    break 'file;
+                }
+            }
+            run = run.continued(study);
+            at = end;
+        }
+        run
+    }
+
+    // The run at the end of its file: one without block 0 is refused 11.
+    pub fn end(self) -> FileRun
+        ensures { λ r. ⌜ r ≡ ended self ⌝ }
+    {
+        if self.refused != 0 {
+            return self;
+        }
+        if self.due != 0 {
+            return self;
+        }
+        let study = self.study;
+        self.stopped(study, 11, 0)
+    }
+}
+
+// The run of a whole file.
+pub fn run_file(rates: &[u32], bytes: &[u8]) -> FileRun
+    ensures { λ r. ⌜ r ≡ fileRun (now (rates .entry)) (now (bytes .entry)) ⌝ }
+{
+    FileRun::start().feed(rates, bytes).end()
+}

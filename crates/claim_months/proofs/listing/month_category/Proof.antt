@@ -1,0 +1,22 @@
+-- `claim_months::listing::month_category` meets its contract: each way out has the test that leads there.
+-- Assumes nothing.
+use native.Mathlib.Omega.{arith}
+use borrow.Author.Needs.{needs}
+use borrow.Author.Tests.{eq-eqb, ne-eqb}
+use Rattle.claim_months.specs.Helpers.{spanCategory}
+use Rattle.claim_months.proofs.listing.month_category.Statement.{statement}
+use Rattle.claim_months.proofs.listing.month_category.Tie as tie
+
+add-if1 : tie.Need-add-if1
+add-if1 c = search needs
+
+returns : tie.Need-returns
+unfolding spanCategory
+returns c = simp (eq-eqb _ _ (c .if1 .taken)) (omega arith)
+
+returns-2 : tie.Need-returns-2
+unfolding spanCategory
+returns-2 c = simp (ne-eqb _ _ (c .if1 .left))
+
+pub month-category-spec : {M : Type 1} → statement M
+month-category-spec = tie.close (tie.spec add-if1 returns returns-2)

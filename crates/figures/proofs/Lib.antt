@@ -1,0 +1,2 @@
+-- `Joint`: the joint theorem.
+pub mod Joint

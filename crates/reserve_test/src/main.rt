@@ -1,0 +1,223 @@
+// The reserve factor and the valuation rate at the edges of each check and between them. Each line has the number that varies,
+// or else a running number, and the answer. A factor is written as its bits.
+use claim_months::Duration;
+use libc::STDOUT_FILENO;
+use valuation::MaybeRate;
+use valuation::Reserve;
+
+const EVEN: [u64; 5] = [1000000, 1000000, 1000000, 1000000, 1000000];
+
+const UNEVEN: [u64; 5] = [500000, 800000, 1100000, 1300000, 900000];
+
+fn refused(number: u8) {
+    io::write_all(STDOUT_FILENO, b": refused ");
+    io::print_decimal(STDOUT_FILENO, number as u64);
+}
+
+// The answer for a cell, first duration, five T, months and discount.
+fn factor(case: u64, rates: &[u32], cell: u8, first: u32, t: [u64; 5], months: u32, v: f64) {
+    io::print_decimal(STDOUT_FILENO, case);
+    let answer = valuation::reserve_factor::reserve_factor(
+        rates,
+        cell,
+        Duration(first),
+        t,
+        months,
+        v,
+    );
+    match answer {
+        Reserve::Factor(x) => {
+            io::write_all(STDOUT_FILENO, b": factor ");
+            io::print_hex(STDOUT_FILENO, f64::to_bits(x), 16);
+        }
+        Reserve::Refused(n) => refused(n),
+    }
+    io::write_all(STDOUT_FILENO, b"\n");
+}
+
+// The answer for a cell, T and duration.
+fn rate(case: u64, rates: &[u32], cell: u8, t: u64, duration: u32) {
+    io::print_decimal(STDOUT_FILENO, case);
+    let answer = valuation::rate::valuation_rate(rates, cell, t, Duration(duration));
+    match answer {
+        MaybeRate::Rate(g) => {
+            io::write_all(STDOUT_FILENO, b": rate ");
+            io::print_decimal(STDOUT_FILENO, g as u64);
+        }
+        MaybeRate::Refused(n) => refused(n),
+    }
+    io::write_all(STDOUT_FILENO, b"\n");
+}
+
+// Two cells; the rate at place i is 7,919 i modulo 20,011, so that no two neighbours are alike.
+fn table() -> [u32; 1916] {
+    let mut rates = [0u32; 1916];
+    let mut i: usize = 0;
+    while i < 1916 {
+        rates[i] = (i * 7919 % 20011) as u32;
+        i += 1;
+    }
+    rates
+}
+
+fn discounts(rates: &[u32]) {
+    io::write_all(STDOUT_FILENO, b"discount\n");
+    let zero = 0.0f64;
+    factor(1, rates, 0, 4, EVEN, 24, zero / zero);
+    factor(2, rates, 0, 4, EVEN, 24, zero);
+    factor(3, rates, 0, 4, EVEN, 24, -zero);
+    factor(4, rates, 0, 4, EVEN, 24, -0.5);
+    factor(5, rates, 0, 4, EVEN, 24, 1.0 / zero);
+    factor(6, rates, 0, 4, EVEN, 24, -1.0 / zero);
+    factor(7, rates, 0, 4, EVEN, 24, 1.0);
+    factor(8, rates, 0, 4, EVEN, 24, 1.0000000000000002);
+    factor(9, rates, 0, 4, EVEN, 24, 0.9999999999999999);
+    factor(10, rates, 0, 4, EVEN, 24, 5e-324);
+    factor(11, rates, 0, 4, EVEN, 24, 1e-310);
+    factor(12, rates, 0, 4, EVEN, 24, 0.5);
+    factor(13, rates, 0, 4, EVEN, 24, 0.997);
+}
+
+fn lengths(rates: &[u32]) {
+    io::write_all(STDOUT_FILENO, b"months\n");
+    factor(0, rates, 1, 4, UNEVEN, 0, 0.997);
+    factor(1, rates, 1, 4, UNEVEN, 1, 0.997);
+    factor(2, rates, 1, 4, UNEVEN, 2, 0.997);
+    factor(479, rates, 1, 4, UNEVEN, 479, 0.997);
+    factor(480, rates, 1, 4, UNEVEN, 480, 0.997);
+    factor(481, rates, 1, 4, UNEVEN, 481, 0.997);
+    factor(4294967295, rates, 1, 4, UNEVEN, 4294967295, 0.997);
+}
+
+fn durations(rates: &[u32]) {
+    io::write_all(STDOUT_FILENO, b"first duration\n");
+    factor(0, rates, 0, 0, UNEVEN, 3, 0.997);
+    factor(1, rates, 0, 1, UNEVEN, 3, 0.997);
+    factor(2, rates, 0, 2, UNEVEN, 3, 0.997);
+    factor(3, rates, 0, 3, UNEVEN, 3, 0.997);
+    factor(23, rates, 0, 23, UNEVEN, 3, 0.997);
+    factor(59, rates, 0, 59, UNEVEN, 3, 0.997);
+    factor(119, rates, 0, 119, UNEVEN, 3, 0.997);
+    factor(478, rates, 0, 478, UNEVEN, 5, 0.997);
+    factor(480, rates, 0, 480, UNEVEN, 3, 0.997);
+    factor(481, rates, 0, 481, UNEVEN, 3, 0.997);
+    factor(4294967295, rates, 0, 4294967295, UNEVEN, 3, 0.997);
+}
+
+fn improvements(rates: &[u32]) {
+    io::write_all(STDOUT_FILENO, b"T\n");
+    factor(0, rates, 0, 2, [0; 5], 480, 0.997);
+    factor(1000000, rates, 0, 2, EVEN, 480, 0.997);
+    factor(
+        18446744073709551615,
+        rates,
+        0,
+        2,
+        [18446744073709551615; 5],
+        480,
+        0.997,
+    );
+    factor(1, rates, 0, 2, UNEVEN, 480, 0.997);
+    rate(0, rates, 0, 0, 4);
+    rate(1000000, rates, 0, 1000000, 4);
+    rate(987654, rates, 0, 987654, 4);
+    rate(18446744073709551615, rates, 0, 18446744073709551615, 4);
+}
+
+fn rate_durations(rates: &[u32]) {
+    io::write_all(STDOUT_FILENO, b"duration\n");
+    rate(0, rates, 0, 1000000, 0);
+    rate(1, rates, 0, 1000000, 1);
+    rate(2, rates, 0, 1000000, 2);
+    rate(480, rates, 1, 1000000, 480);
+    rate(481, rates, 1, 1000000, 481);
+    rate(4294967295, rates, 1, 1000000, 4294967295);
+}
+
+// The first n rates as a table.
+fn part(rates: &[u32], n: usize, cell: u8) {
+    if n <= rates.len() {
+        factor(n as u64, &rates[0..n], cell, 4, EVEN, 24, 0.997);
+        rate(n as u64, &rates[0..n], cell, 1000000, 4);
+    }
+}
+
+// Tables that aren't one, and cells that aren't there.
+fn tables(rates: &[u32]) {
+    io::write_all(STDOUT_FILENO, b"rates\n");
+    part(rates, 0, 0);
+    part(rates, 957, 0);
+    part(rates, 958, 0);
+    part(rates, 958, 1);
+    part(rates, 959, 0);
+    part(rates, 1916, 1);
+    part(rates, 1916, 2);
+    part(rates, 1916, 255);
+}
+
+// A call that fails several checks answers the first of them.
+fn order(rates: &[u32]) {
+    io::write_all(STDOUT_FILENO, b"first of several\n");
+    let short = [0u32; 957];
+    factor(6, &short, 255, 1, EVEN, 481, 0.0);
+    rate(6, &short, 255, 0, 1);
+    factor(7, rates, 2, 1, EVEN, 481, 0.0);
+    rate(7, rates, 2, 0, 481);
+    factor(12, rates, 0, 2, EVEN, 481, 0.0);
+}
+
+// Cell 1 has at duration 102 a recovery rate of 999,000 and the given death rate.
+fn heavy(table: [u32; 1916], death: u32) {
+    io::write_all(STDOUT_FILENO, b"cell of a heavy table\n");
+    let mut rates = table;
+    rates[1058] = 999000;
+    rates[1537] = death;
+    factor(0, &rates, 0, 100, EVEN, 5, 0.997);
+    factor(1, &rates, 1, 100, EVEN, 5, 0.997);
+    factor(1, &rates, 1, 481, EVEN, 481, 1.5);
+    rate(1, &rates, 1, 1000000, 102);
+    rate(1, &rates, 1, 1000000, 481);
+}
+
+// T × S about 10^12, and below 1,000,000.
+fn products(death: u32) {
+    io::write_all(STDOUT_FILENO, b"T of a death rate\n");
+    let mut rates = [0u32; 958];
+    rates[481] = death;
+    rate(1, &rates, 0, 1, 4);
+    rate(999999, &rates, 0, 999999, 4);
+    rate(999999999999, &rates, 0, 999999999999, 4);
+    rate(1000000000000, &rates, 0, 1000000000000, 4);
+    rate(18446744073709551615, &rates, 0, 18446744073709551615, 4);
+    factor(1000000, &rates, 0, 2, EVEN, 4, 0.5);
+}
+
+// The paper's figure, then 64 cells, which are a table, and 65, which are none.
+fn cells() {
+    io::write_all(STDOUT_FILENO, b"cells\n");
+    let halves = [250000u32; 958];
+    factor(1, &halves, 0, 4, EVEN, 2, 0.5);
+    let most = [0u32; 61312];
+    factor(64, &most, 63, 4, EVEN, 24, 0.5);
+    factor(64, &most, 64, 4, EVEN, 24, 0.5);
+    let many = [0u32; 62270];
+    factor(65, &many, 0, 4, EVEN, 24, 0.5);
+}
+
+fn main() {
+    let rates = table();
+    discounts(&rates);
+    lengths(&rates);
+    durations(&rates);
+    improvements(&rates);
+    rate_durations(&rates);
+    tables(&rates);
+    order(&rates);
+    heavy(rates, 1000);
+    heavy(rates, 1001);
+    products(0);
+    products(1);
+    products(500000);
+    products(1000000);
+    cells();
+}

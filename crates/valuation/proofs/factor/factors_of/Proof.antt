@@ -1,0 +1,58 @@
+-- `valuation::factor::factors_of` meets its contract: what its callees ensure, put together.
+-- Assumes nothing.
+use native.Mathlib.Omega.{arith}
+use borrow.Author.Needs.{needs}
+use borrow.Author.Tests.{ne-eqb}
+use lib.IntN.{pos}
+use Rattle.valuation.specs.Factor.{positive, unlimited, factor, factorsOf}
+use Rattle.valuation.proofs.Laws.{credibility-high, margin-bounds}
+use Rattle.valuation.proofs.factor.factors_of.Statement.{statement}
+use Rattle.valuation.proofs.factor.factors_of.Tie as tie
+
+credibility-of-requires : tie.Need-credibility-of-requires
+credibility-of-requires c κs = search needs
+
+margin-of-requires : tie.Need-margin-of-requires
+margin-of-requires c κs = search needs
+
+unlimited-of-requires : tie.Need-unlimited-of-requires
+unlimited-of-requires c κs =
+    let a = c .before .before .args in
+    omega (arith, credibility-high (a .group) (pos (a .expected)), margin-bounds (a .group) (a .terminations))
+
+cast-t7 : tie.Need-cast-t7
+cast-t7 c =
+    let a = c .before .before .before .args in
+    omega (arith, credibility-high (a .group) (pos (a .expected)))
+
+cast-t8 : tie.Need-cast-t8
+cast-t8 c =
+    let a = c .before .before .before .args in
+    omega (arith, margin-bounds (a .group) (a .terminations))
+
+limited-requires : tie.Need-limited-requires
+limited-requires c κs = search needs
+
+returns : tie.Need-returns
+unfolding factorsOf factor unlimited positive
+returns c =
+    let d = c .before .before .before in
+    simp (
+      ne-eqb (d .before .args .group) 1 (omega arith),
+      c .limited .ensures,
+      c .before .unlimited-of .ensures,
+      c .before .before .margin-of .ensures,
+      d .credibility-of .ensures,
+    )
+
+pub factors-of-spec : {M : Type 1} → statement M
+factors-of-spec =
+    tie.close
+    (tie.spec
+    credibility-of-requires
+    margin-of-requires
+    unlimited-of-requires
+    cast-t7
+    cast-t8
+    limited-requires
+    returns)

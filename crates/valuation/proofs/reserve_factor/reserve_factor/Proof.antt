@@ -1,0 +1,95 @@
+-- `valuation::reserve_factor::reserve_factor` meets its contract: each way out has the definition's tests that lead there. Assumes nothing.
+use Prim.Native.Nat.{ℕ}
+use mathlib.Core.Path.{_≡_}
+use mathlib.Core.Bool.{true, _&&_, and-false}
+use borrow.Author.Needs.{needs}
+use borrow.Author.Tests.{le-leb, lt-leb}
+use native.Mathlib.Omega.{arith}
+use lib.Dec.{leb}
+use Rattle.valuation.specs.Rate.{durationSound}
+use Rattle.valuation.specs.Reserve.{factor}
+use Rattle.valuation.proofs.Answers.{
+  reserve-table,
+  reserve-duration,
+  reserve-discount,
+  reserve-found,
+  discount-passes,
+  discount-over,
+  discount-under,
+}
+use Rattle.valuation.proofs.reserve_factor.reserve_factor.Statement.{statement}
+use Rattle.valuation.proofs.reserve_factor.reserve_factor.Tie as tie
+
+check-requires : tie.Need-check-requires
+check-requires c κs = search needs
+
+returns : tie.Need-returns
+returns c = reserve-table _ _ _ (c .before .check .ensures) _ _ _ _ (c .if1 .taken)
+
+returns-2 : tie.Need-returns-2
+unfolding durationSound
+returns-2 c =
+    let d : ℕ = c .before .before .before .before .args .first .0 in
+    reserve-duration _ _ _ (c .before .before .check .ensures) _ _ _ _ (c .before .if1 .left)
+    (simp (lt-leb 2 d (omega arith)))
+
+returns-3 : tie.Need-returns-3
+unfolding durationSound
+returns-3 c =
+    let d : ℕ = c .before .before .before .before .before .args .first .0 in
+    reserve-duration _ _ _ (c .before .before .before .check .ensures) _ _ _ _ (c .before .before .if1 .left)
+    (simp (lt-leb d 480 (omega arith), and-false))
+
+returns-4 : tie.Need-returns-4
+returns-4 c =
+    let n : ℕ = c .before .before .before .before .before .before .args .months in
+    reserve-duration _ _ _ (c .before .before .before .before .check .ensures) _ _ _ _ (c .before .before .before .if1 .left)
+    (simp (lt-leb n 480 (omega arith), and-false))
+
+after-requires : tie.Need-after-requires
+after-requires c κs = search needs
+
+-- past the tests on numbers the check 12 has passed
+numbers-pass :
+    (c : tie.Else4)
+    → (durationSound (c .before .before .before .before .before .before .args .first .0)
+    && leb (c .before .before .before .before .before .before .args .months) 480) ≡ true
+unfolding durationSound
+numbers-pass c =
+    let d : ℕ = c .before .before .before .before .before .before .args .first .0 in
+    let n : ℕ = c .before .before .before .before .before .before .args .months in
+    simp (le-leb 2 d (omega arith), le-leb d 480 (omega arith), le-leb n 480 (omega arith))
+
+returns-6 : tie.Need-returns-6
+returns-6 c =
+    let e = c .before .before in
+    reserve-discount _ _ _ (e .before .before .before .before .check .ensures) _ _ _ _ (e .before .before .before .if1 .left)
+    (numbers-pass e) (discount-over _ (c .if6 .left))
+
+returns-7 : tie.Need-returns-7
+returns-7 c =
+    let e = c .before in
+    reserve-discount _ _ _ (e .before .before .before .before .check .ensures) _ _ _ _ (e .before .before .before .if1 .left)
+    (numbers-pass e) (discount-under _ (c .if5 .left))
+
+returns-5 : tie.Need-returns-5
+unfolding factor
+returns-5 c =
+    let e = c .before .before .before in
+    rw (c .after .ensures)
+    (reserve-found _ _ _ (e .before .before .before .before .check .ensures) _ _ _ _ (e .before .before .before .if1 .left)
+    (numbers-pass e) (discount-passes _ (c .before .before .if5 .taken) (c .before .if6 .taken)))
+
+pub reserve-factor-spec : {M : Type 1} → statement M
+reserve-factor-spec =
+    tie.close
+    (tie.spec
+    check-requires
+    returns
+    returns-2
+    returns-3
+    returns-4
+    after-requires
+    returns-5
+    returns-6
+    returns-7)

@@ -1,0 +1,30 @@
+// Valuation (document 01): z, m and T of a group, the valuation rate and the reserve factor.
+pub mod factor;
+pub mod rate;
+pub mod reserve_factor;
+pub mod sums;
+
+// z, m and T of a group, in millionths.
+pub struct GroupFactor {
+    pub z: u32,
+    pub m: u32,
+    pub t: u64,
+}
+
+// z, m and T, or the number refused.
+pub enum MaybeFactor {
+    Known(GroupFactor),
+    Refused(u8),
+}
+
+// A valuation rate in millionths, or the number refused.
+pub enum MaybeRate {
+    Rate(u32),
+    Refused(u8),
+}
+
+// The reserve factor, or the number refused.
+pub enum Reserve {
+    Factor(f64),
+    Refused(u8),
+}

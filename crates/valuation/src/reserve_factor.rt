@@ -1,0 +1,106 @@
+// The reserve factor, in f64, one rounding per operation.
+ghost use mathlib.Core.Path.{_≡_};
+ghost use Prim.Native.Nat.{_+_, _≤_};
+ghost use denote.Ref.{now};
+ghost use Rattle.rates.specs.Rates.{rateCheck};
+ghost use Rattle.valuation.specs.Reserve.{month, monthDuration, monthRate, running, reserveIn};
+use crate::Reserve;
+use crate::rate::rate_of;
+use claim_months::Duration;
+use rates::check;
+use rates::group;
+
+// The running values: P, D and the sum.
+pub struct Running {
+    pub p: f64,
+    pub d: f64,
+    pub sum: f64,
+}
+
+// One month with the valuation rate g and the discount v.
+fn step(run: Running, g: u32, v: f64) -> Running
+    requires { ⌜ g ≤ 1000000 ⌝ }
+    ensures { λ r. ⌜ r ≡ month run g v ⌝ }
+{
+    let p = run.p * ((1000000 - g) as f64 / 1000000.0);
+    let d = run.d * v;
+    Running {
+        p,
+        d,
+        sum: run.sum + p * d,
+    }
+}
+
+// The duration of the month after n others: one later each month, at most 480.
+fn later(first: Duration, n: u32) -> Duration
+    requires { ⌜ (first .0 ≤ 480) × (n ≤ 480) ⌝ }
+    ensures { λ r. ⌜ r .0 ≡ monthDuration (first .0) (n + 1) ⌝ }
+{
+    let reached = first.0 + n;
+    if reached > 480 {
+        return Duration(480);
+    }
+    Duration(reached)
+}
+
+// The valuation rate of the month after n others, with the T of its duration's group.
+fn month_rate(rates: &[u32], cell: u8, first: Duration, t: [u64; 5], n: u32) -> u32
+    requires { ⌜ (rateCheck (now rates) cell ≡ 0) × (first .0 ≤ 480) × (n ≤ 480) ⌝ }
+    ensures { λ r. ⌜ r ≡ monthRate (now (rates .entry)) cell (first .0) t (n + 1) ⌝ }
+{
+    let duration = later(first, n);
+    let place = group(duration) as usize - 1;
+    rate_of(rates, cell, t[place], duration)
+}
+
+// The running values after all months.
+fn after(rates: &[u32], cell: u8, first: Duration, t: [u64; 5], months: u32, v: f64) -> Running
+    requires { ⌜ (rateCheck (now rates) cell ≡ 0) × (first .0 ≤ 480) × (months ≤ 480) ⌝ }
+    ensures { λ r. ⌜ r ≡ running (now (rates .entry)) cell (first .0) t v months ⌝ }
+{
+    let mut run = Running {
+        p: 1.0,
+        d: 1.0,
+        sum: 0.0,
+    };
+    let mut n: u32 = 0;
+    while n < months {
+        run = step(run, month_rate(rates, cell, first, t, n), v);
+        n += 1;
+    }
+    run
+}
+
+// The reserve factor of a cell from a first duration on, over the given months, or the number refused.
+pub fn reserve_factor(
+    rates: &[u32],
+    cell: u8,
+    first: Duration,
+    t: [u64; 5],
+    months: u32,
+    v: f64,
+) -> Reserve
+    ensures { λ r. ⌜ r ≡ reserveIn (now (rates .entry)) cell (first .0) t months v ⌝ }
+{
+    let failed = check(rates, cell);
+    if failed != 0 {
+        return Reserve::Refused(failed);
+    }
+    let duration = first.0;
+    if duration < 2 {
+        return Reserve::Refused(12);
+    }
+    if duration > 480 {
+        return Reserve::Refused(12);
+    }
+    if months > 480 {
+        return Reserve::Refused(12);
+    }
+    if v > 0.0 {
+        if v <= 1.0 {
+            let run = after(rates, cell, first, t, months, v);
+            return Reserve::Factor(run.sum);
+        }
+    }
+    Reserve::Refused(13)
+}

@@ -1,0 +1,170 @@
+// z, m and T at the edges of each rule and check: from C and E for every group, then from a study's sums.
+use libc::STDOUT_FILENO;
+use valuation::MaybeFactor;
+use valuation::factor::factor;
+use valuation::sums::sums_factor;
+
+const MOST: i64 = 9223372036854775807;
+
+const LEAST: i64 = -9223372036854775808;
+
+const FULL: u32 = 4294967295;
+
+fn number(word: &[u8], n: u64) {
+    io::write_all(STDOUT_FILENO, word);
+    io::print_decimal(STDOUT_FILENO, n);
+}
+
+// The answer, after the group.
+fn line(group: u8, answer: MaybeFactor) {
+    number(b" group ", group as u64);
+    match answer {
+        MaybeFactor::Known(f) => {
+            number(b": z ", f.z as u64);
+            number(b" m ", f.m as u64);
+            number(b" T ", f.t);
+        }
+        MaybeFactor::Refused(n) => number(b": refused ", n as u64),
+    }
+    io::write_all(STDOUT_FILENO, b"\n");
+}
+
+fn of_group(group: u8, terminations: u32, expected: i64) {
+    number(b"C ", terminations as u64);
+    line(group, factor(group, terminations, expected));
+}
+
+fn groups(terminations: u32, expected: i64) {
+    of_group(0, terminations, expected);
+    of_group(1, terminations, expected);
+    of_group(2, terminations, expected);
+    of_group(3, terminations, expected);
+    of_group(4, terminations, expected);
+    of_group(5, terminations, expected);
+    of_group(6, terminations, expected);
+    of_group(255, terminations, expected);
+}
+
+fn counts(word: &[u8], expected: i64) {
+    io::write_all(STDOUT_FILENO, word);
+    groups(0, expected);
+    groups(1, expected);
+    groups(2, expected);
+    groups(1000, expected);
+    groups(4999, expected);
+    groups(5000, expected);
+    groups(5001, expected);
+    groups(499999, expected);
+    groups(500000, expected);
+    groups(500001, expected);
+    groups(FULL, expected);
+}
+
+// E about 0, about each group's full z, at the bounds of a study's sums, and at the ends of its type.
+fn factors() {
+    counts(b"E -9223372036854775808\n", LEAST);
+    counts(b"E -1\n", -1);
+    counts(b"E 0\n", 0);
+    counts(b"E 1\n", 1);
+    counts(b"E 6300000\n", 6300000);
+    counts(b"E 9450000\n", 9450000);
+    counts(b"E 24750000000\n", 24750000000);
+    counts(b"E 50999999999\n", 50999999999);
+    counts(b"E 51000000000\n", 51000000000);
+    counts(b"E 62999999999\n", 62999999999);
+    counts(b"E 63000000000\n", 63000000000);
+    counts(b"E 74999999999\n", 74999999999);
+    counts(b"E 75000000000\n", 75000000000);
+    counts(b"E 98999999999\n", 98999999999);
+    counts(b"E 99000000000\n", 99000000000);
+    counts(b"E 27000000000000000\n", 27000000000000000);
+    counts(b"E 54000000000000000\n", 54000000000000000);
+    counts(b"E 9223372036854775807\n", MOST);
+}
+
+fn of_sums(case: u64, group: u8, closings: [u32; 5], recoveries: i64, deaths: i64) {
+    number(b"case ", case);
+    line(group, sums_factor(group, closings, recoveries, deaths));
+}
+
+// Each of the five counts alone.
+fn alone(n: u32, group: u8) {
+    number(b"one count ", n as u64);
+    io::write_all(STDOUT_FILENO, b"\n");
+    of_sums(1, group, [n, 0, 0, 0, 0], 6000000000, 3000000000);
+    of_sums(2, group, [0, n, 0, 0, 0], 6000000000, 3000000000);
+    of_sums(3, group, [0, 0, n, 0, 0], 6000000000, 3000000000);
+    of_sums(4, group, [0, 0, 0, n, 0], 6000000000, 3000000000);
+    of_sums(5, group, [0, 0, 0, 0, n], 6000000000, 3000000000);
+}
+
+// C about 500,000, and past 32 bits.
+fn together() {
+    io::write_all(STDOUT_FILENO, b"counts together\n");
+    of_sums(1, 2, [300, 7, 0, 0, 0], 6000000000, 3000000000);
+    of_sums(2, 2, [7, 300, FULL, FULL, FULL], 6000000000, 3000000000);
+    of_sums(3, 2, [250000, 250000, FULL, FULL, FULL], 1, 0);
+    of_sums(4, 2, [250001, 250000, 0, 0, 0], 1, 0);
+    of_sums(5, 2, [250000, 250001, 0, 0, 0], 1, 0);
+    of_sums(6, 2, [FULL, 1, 0, 0, 0], 1, 0);
+    of_sums(7, 2, [1, FULL, 0, 0, 0], 1, 0);
+    of_sums(8, 2, [FULL, FULL, FULL, FULL, FULL], 1, 0);
+    of_sums(9, 1, [FULL, FULL, 0, 0, 0], MOST, MOST);
+    of_sums(10, 0, [0, 0, 0, 0, 0], 0, 0);
+    of_sums(11, 6, [0, 0, 0, 0, 0], 0, 0);
+    of_sums(12, 255, [FULL, FULL, FULL, FULL, FULL], LEAST, LEAST);
+}
+
+// Both expected sums from end to end.
+fn sums(group: u8) {
+    io::write_all(STDOUT_FILENO, b"expected sums\n");
+    let closings = [250000, 240000, 3, 4, 5];
+    of_sums(1, group, closings, MOST, MOST);
+    of_sums(2, group, closings, MOST, LEAST);
+    of_sums(3, group, closings, LEAST, MOST);
+    of_sums(4, group, closings, LEAST, LEAST);
+    of_sums(5, group, closings, MOST, 0);
+    of_sums(6, group, closings, 0, MOST);
+    of_sums(7, group, closings, LEAST, 0);
+    of_sums(8, group, closings, 0, LEAST);
+    of_sums(9, group, closings, MOST, 1);
+    of_sums(10, group, closings, 1, MOST);
+    of_sums(11, group, closings, LEAST, -1);
+    of_sums(12, group, closings, -1, LEAST);
+    of_sums(13, group, closings, MOST, -1);
+    of_sums(14, group, closings, -1, MOST);
+    of_sums(15, group, closings, 0, 0);
+    of_sums(16, group, closings, -1, 1);
+    of_sums(17, group, closings, 1, -1);
+    of_sums(18, group, closings, -1, 2);
+    of_sums(19, group, closings, 2, -1);
+    of_sums(20, group, closings, 49500000000, 49500000000);
+    of_sums(21, group, closings, 49500000000, 49499999999);
+    of_sums(22, group, closings, -1000000000, 100000000000);
+    of_sums(23, group, closings, 100000000000, -1000000001);
+    of_sums(24, group, closings, 27000000000000000, 27000000000000000);
+}
+
+// The printed table's groups.
+fn printed() {
+    io::write_all(STDOUT_FILENO, b"printed table\n");
+    of_sums(1, 1, [0, 0, 0, 0, 0], 0, 0);
+    of_sums(2, 2, [0, 0, 0, 0, 0], 6300000, 3150000);
+    of_sums(3, 3, [1, 0, 0, 0, 0], 4200000, 2100000);
+    of_sums(4, 4, [0, 0, 0, 0, 0], 0, 0);
+    of_sums(5, 5, [0, 0, 0, 0, 0], 0, 0);
+}
+
+fn main() {
+    factors();
+    alone(307, 2);
+    alone(500000, 3);
+    alone(FULL, 4);
+    together();
+    sums(1);
+    sums(2);
+    sums(3);
+    sums(4);
+    sums(5);
+    printed();
+}
