@@ -30,9 +30,9 @@ pieces (suc n) r rates a b e =
     ap (λ (x : FileRun). fed x rates b) (fed-block r rates a u l)
     ∙ pieces n first rates (drop 512 a) b (omega (arith, length-drop 512 a))
     ∙ sym
-      (fed-block r rates (a ++ b) u w
-      ∙ ap (λ (p : List ℕ). fed (blockFed r rates p) rates (drop 512 (a ++ b))) (take-append-le 512 a b l)
-      ∙ ap (fed first rates) (drop-append-le 512 a b l)))
+    (fed-block r rates (a ++ b) u w
+    ∙ ap (λ (p : List ℕ). fed (blockFed r rates p) rates (drop 512 (a ++ b))) (take-append-le 512 a b l)
+    ∙ ap (fed first rates) (drop-append-le 512 a b l)))
     (λ t.
     let h = eqb-false (r .refused) 0 t in
     ap (λ (x : FileRun). fed x rates b) (fed-refused r rates a h) ∙ fed-refused r rates b h ∙ sym (fed-refused r rates (a ++ b) h))

@@ -2,6 +2,7 @@
 -- what these and the proofs of the calls cite.
 pub mod RoundTrip
 pub mod Feeding
+pub mod Files
 mod Runs
 mod Parts
 mod Tests

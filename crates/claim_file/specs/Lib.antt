@@ -3,3 +3,4 @@ pub mod Block
 pub mod Answers
 pub mod Run
 pub mod Begun
+pub mod Files

@@ -8,7 +8,7 @@ use lib.ListN.{length, getD}
 use lib.Dec.{leb, ltb, eqb}
 use lib.IntN.{ℤ, pos, _+ℤ_}
 use native.Mathlib.Numerals.{add-one}
-use borrow.Author.Tests.{eqb-true}
+use borrow.Author.Tests.{eqb-true, ltb-true}
 use Rattle.calendar.specs.Calendar.{pick, dayNumber}
 use Rattle.calendar.proofs.Tests.{tests, by, pick-is}
 use Rattle.claim_months.specs.declared.Claim.{Claim}
@@ -134,3 +134,45 @@ module _ (b e : ℕ) (rates : List ℕ) (sound : windowSound b e ≡ true) where
       ap (λ (s : Study). after rates claims s xs) (fresh-built b e rates) ∙ after-built claims xs [] tt (omega tests)
       ∙ same-study b e rates (takenAfter rates claims xs []) (accepted rates claims)
       (λ f. run-sum _+ℤ_ (pos 0) signed-sums rates f claims xs o) (λ f. run-sum _+_ 0 counts rates f claims xs o)
+
+-- the number answered to a claim by the study of some accepted claims: the claim's own, or 9 if they are 500,000 or more
+unfoldable pub numberAfter : List ℕ → List Claim → Claim → ℕ
+numberAfter rates cs c = pick (eqb (claimNumber rates c) 0) (pick (ltb (length cs) 500000) 0 9) (claimNumber rates c)
+
+room-is : (b e : ℕ) (rates : List ℕ) (cs : List Claim) → All (Accepted rates) cs → hasRoom (studyOf b e rates cs) ≡ ltb (length cs) 500000
+unfolding hasRoom studyOf
+room-is b e rates cs a =
+    by (ltb (length cs) 500000) (λ y. ltb (length cs) 500000 ≡ y → hasRoom (studyOf b e rates cs) ≡ y) (λ q u. room b e rates cs a (ltb-true (length cs) 500000 u))
+    (λ q u. rw u) refl
+
+number-after : (b e : ℕ) (rates : List ℕ) → windowSound b e ≡ true → (cs : List Claim) (c : Claim) → All (Accepted rates) cs
+    → addCheck (studyOf b e rates cs) c rates ≡ numberAfter rates cs c
+unfolding addCheck exposureCheck numberAfter claimNumber studyOf
+number-after b e rates sound cs c a =
+    let r = rateCheck rates (c .cell) in
+    let l = ltb (length cs) 500000 in
+    rw (sound, room-is b e rates cs a)
+    (by (eqb (claimCheck c) 0)
+    (λ y. eqb (claimCheck c) 0 ≡ y → pick y (pick (eqb r 0) (pick l 0 9) r) (claimCheck c) ≡ pick (eqb (pick y r (claimCheck c)) 0) (pick l 0 9) (pick y r (claimCheck c)))
+    (λ q u. refl) (λ q u. rw u) refl)
+
+pub added-after : (b e : ℕ) (rates : List ℕ) → windowSound b e ≡ true → (cs : List Claim) (c : Claim) → All (Accepted rates) cs
+    → added (studyOf b e rates cs) c rates
+    ≡ record { refused = numberAfter rates cs c; study = studyOf b e rates (pick (eqb (numberAfter rates cs c) 0) (c ∷ cs) cs) }
+unfolding added
+added-after b e rates sound cs c a =
+    let n = number-after b e rates sound cs c a in
+    let s : pick (eqb (addCheck (studyOf b e rates cs) c rates) 0) (withClaim (studyOf b e rates cs) c rates) (studyOf b e rates cs)
+    ≡ studyOf b e rates (pick (eqb (numberAfter rates cs c) 0) (c ∷ cs) cs) =
+    ap (λ (x : ℕ). pick (eqb x 0) (withClaim (studyOf b e rates cs) c rates) (studyOf b e rates cs)) n
+    ∙ by (eqb (numberAfter rates cs c) 0)
+    (λ y. pick y (withClaim (studyOf b e rates cs) c rates) (studyOf b e rates cs) ≡ studyOf b e rates (pick y (c ∷ cs) cs))
+    (λ q. with-built b e rates cs c) (λ q. refl) in
+    λ i. record { refused = n i; study = s i }
+
+-- 0 is answered to accepted claims only
+pub zero-accepted : (rates : List ℕ) (cs : List Claim) (c : Claim) → numberAfter rates cs c ≡ 0 → Accepted rates c
+unfolding numberAfter
+zero-accepted rates cs c h =
+    by (eqb (claimNumber rates c) 0) (λ y. eqb (claimNumber rates c) 0 ≡ y → pick y (pick (ltb (length cs) 500000) 0 9) (claimNumber rates c) ≡ 0 → claimNumber rates c ≡ 0)
+    (λ q u z. eqb-true (claimNumber rates c) 0 u) (λ q u z. z) refl h

@@ -29,10 +29,11 @@ use Rattle.rates.proofs.Laws.{group-low, group-high}
 use Rattle.study.specs.declared.Study.{Study}
 use Rattle.study.specs.declared.Answer.{Answer}
 use Rattle.study.specs.Study.{inGroup, table, exposure, closingCount, expectedRecoveries, expectedDeaths, sumOver, studyOf, fresh, opened, added}
-use Rattle.study.specs.Demand3.{StudyRun, times, IsOrder, Opens, Consecutive, claimAt, after, givenTo, lastStudy, givenAt, answerAt, CountedClosed, claimNumber, accepted, closesIn, AddsUp, Demand3}
+use Rattle.study.specs.Demand3.{StudyRun, times, IsOrder, Opens, Consecutive, claimAt, after, givenTo, lastStudy, givenAt, answerAt, CountedClosed, claimNumber, accepted, closesIn, SumsTotal, AddsUp, Demand3}
 use Rattle.study.proofs.Tables.{table-length, table-at, table-past, table-same, raise, one-place}
 use Rattle.study.proofs.SumOver.{All, Commutes, signed-sums, counts, sum-same, total-sums, order-length}
 use Rattle.study.proofs.Capacity.{Accepted, accepted-sound}
+use Rattle.study.proofs.Totals.{studies-total, same-totals}
 use Rattle.study.proofs.Built.{fresh-built, added-built, Given, given-built, last-built, oneMore}
 
 -- a run's window as day numbers
@@ -40,14 +41,14 @@ abbrev win : StudyRun → Window
 win r = record { first = dayNumber (r .first); last = dayNumber (r .last) }
 
 -- opening accepts a run: its dates are in order, and its study starts fresh
-dates-sound : (b e : Date) → datesWindow b e ≡ true → windowSound (dayNumber b) (dayNumber e) ≡ true
+pub dates-sound : (b e : Date) → datesWindow b e ≡ true → windowSound (dayNumber b) (dayNumber e) ≡ true
 unfolding datesWindow windowSound
 dates-sound b e h =
     let d = and-left (isDate b && isDate e) (leb (dayNumber b) (dayNumber e)) h in
     rw (le-leb (dayNumber b) 54786 (day-last b (and-left (isDate b) (isDate e) d)), le-leb (dayNumber e) 54786 (day-last e (and-right (isDate b) (isDate e) d)))
     (and-right (isDate b && isDate e) (leb (dayNumber b) (dayNumber e)) h)
 
-opens-dates : (b e : Date) → opened b e .refused ≡ 0 → datesWindow b e ≡ true
+pub opens-dates : (b e : Date) → opened b e .refused ≡ 0 → datesWindow b e ≡ true
 unfolding opened
 opens-dates b e h =
     by (datesWindow b e)
@@ -177,33 +178,6 @@ module _ (rates : List ℕ) (claims : List Claim) (h : length claims ≤ 500000)
         not-higher (givenAt rates claims i r .closings) (k .0) (omega (tests, k .1, n, ap length before-closings))
         (sym (after-closings ∙ same ∙ sym before-closings) ∙ k .2)
 
--- what a claim adds to a table's entry adds up over parts
-module _ {A : Type 0} (add : A → A → A) (none : A) (laws : Commutes add none) where
-  total-none : (r : StudyRun) (rs : List StudyRun) → total add (λ q. none) r rs ≡ none
-  unfolding total
-  total-none r [] = refl
-  total-none r (q ∷ rs) = laws .left _ ∙ total-none q rs
-
-  table-total : (n k : ℕ) (f : ℕ → Claim → ℕ → ℕ → A) (P : Claim → Type 0)
-      → ((c : Claim) → P c → (b m e : ℕ) → b ≤ m → m < e → add (f k c b m) (f k c (m + 1) e) ≡ f k c b e)
-      → (cs : List Claim) → All P cs → (b e : ℕ) (r : StudyRun) (rs : List StudyRun) → Parts win b e r rs
-      → total add (λ q. getD (table n (λ j. sumOver add none (λ c. f j c (win q .first) (win q .last)) cs)) k none) r rs
-      ≡ getD (table n (λ j. sumOver add none (λ c. f j c b e) cs)) k none
-  table-total n k f P cut cs a b e r rs p =
-      by (ltb k n)
-      (λ _. total add (λ q. getD (table n (λ j. sumOver add none (λ c. f j c (win q .first) (win q .last)) cs)) k none) r rs
-      ≡ getD (table n (λ j. sumOver add none (λ c. f j c b e) cs)) k none)
-      (λ y.
-      let l : k < n = omega tests in
-      ap (λ (g : StudyRun → A). total add g r rs) (fun-ext (λ q. table-at n (λ j. sumOver add none (λ c. f j c (win q .first) (win q .last)) cs) k none l))
-      ∙ total-sums add none laws (λ c q. f k c (win q .first) (win q .last)) cs r rs
-      ∙ sum-same add none laws P _ _ (λ c ok. parts-total win add (f k c) (cut c ok) b e r rs p) cs a
-      ∙ sym (table-at n (λ j. sumOver add none (λ c. f j c b e) cs) k none l))
-      (λ y.
-      let l : n ≤ k = omega tests in
-      ap (λ (g : StudyRun → A). total add g r rs) (fun-ext (λ q. table-past n (λ j. sumOver add none (λ c. f j c (win q .first) (win q .last)) cs) k none l))
-      ∙ total-none r rs ∙ sym (table-past n (λ j. sumOver add none (λ c. f j c b e) cs) k none l))
-
 -- the accepted claims of a list are accepted
 all-accepted : (rates : List ℕ) (cs : List Claim) → All (Accepted rates) (accepted rates cs)
 unfolding accepted
@@ -230,44 +204,12 @@ module _ (rates : List ℕ) (claims : List Claim) (whole part : StudyRun) (parts
   studies : EveryPart (λ r. lastStudy rates claims r ≡ studyOf (win r .first) (win r .last) rates (accepted rates claims)) part parts
   studies = every-map _ _ (last-study rates claims h) part parts opens
 
-  -- an entry of the last studies, for a list of sums that the study has as a table
-  module _ {A : Type 0} (add : A → A → A) (none : A) (laws : Commutes add none) (field : Study → List A) (n : ℕ) (f : ℕ → Claim → ℕ → ℕ → A)
-      (is : (b e : ℕ) (cs : List Claim) → field (studyOf b e rates cs) ≡ table n (λ j. sumOver add none (λ c. f j c b e) cs))
-      (cut : (k : ℕ) (c : Claim) → Accepted rates c → (b m e : ℕ) → b ≤ m → m < e → add (f k c b m) (f k c (m + 1) e) ≡ f k c b e) where
-    entry-total : (k : ℕ) → total add (λ r. getD (field (lastStudy rates claims r)) k none) part parts ≡ getD (field (lastStudy rates claims whole)) k none
-    entry-total k =
-        total-same add _ _ part parts
-        (every-map _ _
-        (λ r s. ap (λ (u : Study). getD (field u) k none) s ∙ ap (λ (l : List A). getD l k none) (is (win r .first) (win r .last) (accepted rates claims)))
-        part parts studies)
-        ∙ table-total add none laws n k f (Accepted rates) (cut k) (accepted rates claims) (all-accepted rates claims) (win whole .first) (win whole .last) part parts ps
-        ∙ sym
-        (ap (λ (u : Study). getD (field u) k none) (last-study rates claims h whole ow)
-        ∙ ap (λ (l : List A). getD l k none) (is (win whole .first) (win whole .last) (accepted rates claims)))
-
-  thirtieths-total : (g : ℕ) → total _+ℤ_ (λ r. getD (lastStudy rates claims r .thirtieths) g (pos 0)) part parts ≡ getD (lastStudy rates claims whole .thirtieths) g (pos 0)
-  unfolding studyOf exposure
-  thirtieths-total =
-      entry-total _+ℤ_ (pos 0) signed-sums (λ (s : Study). s .thirtieths) 5 (λ j c b e. exposure (j + 1) (monthRecords c b e)) (λ b e cs. refl)
-      (λ k c ok. cut-weighted c (accepted-sound rates c ok) (inGroup (k + 1)))
-
-  closings-total : (k : ℕ) → total _+_ (λ r. getD (lastStudy rates claims r .closings) k 0) part parts ≡ getD (lastStudy rates claims whole .closings) k 0
-  unfolding studyOf closingCount
-  closings-total =
-      entry-total _+_ 0 counts (λ (s : Study). s .closings) 25 (λ j c b e. closingCount (j / 5 + 1) (j % 5 + 1) (monthRecords c b e)) (λ b e cs. refl)
-      (λ k c ok. cut-closings c (accepted-sound rates c ok) (λ d y. inGroup (k / 5 + 1) d * pick (eqb y (k % 5 + 1)) 1 0))
-
-  recoveries-total : (g : ℕ) → total _+ℤ_ (λ r. getD (lastStudy rates claims r .recoveries) g (pos 0)) part parts ≡ getD (lastStudy rates claims whole .recoveries) g (pos 0)
-  unfolding studyOf expectedRecoveries
-  recoveries-total =
-      entry-total _+ℤ_ (pos 0) signed-sums (λ (s : Study). s .recoveries) 5 (λ j c b e. expectedRecoveries rates (c .cell) (j + 1) (monthRecords c b e)) (λ b e cs. refl)
-      (λ k c ok. cut-weighted c (accepted-sound rates c ok) (λ d. inGroup (k + 1) d * recoveryRate rates (c .cell) d))
-
-  deaths-total : (g : ℕ) → total _+ℤ_ (λ r. getD (lastStudy rates claims r .deaths) g (pos 0)) part parts ≡ getD (lastStudy rates claims whole .deaths) g (pos 0)
-  unfolding studyOf expectedDeaths
-  deaths-total =
-      entry-total _+ℤ_ (pos 0) signed-sums (λ (s : Study). s .deaths) 5 (λ j c b e. expectedDeaths rates (c .cell) (j + 1) (monthRecords c b e)) (λ b e cs. refl)
-      (λ k c ok. cut-weighted c (accepted-sound rates c ok) (λ d. inGroup (k + 1) d * deathRate rates (c .cell) d))
+  -- the sums of the last studies are those of the studies of the accepted claims, which total
+  sums-total : SumsTotal (lastStudy rates claims) (lastStudy rates claims whole) part parts
+  sums-total =
+      same-totals (λ r. studyOf (win r .first) (win r .last) rates (accepted rates claims)) (lastStudy rates claims) _ _ part parts
+      (every-map _ _ (λ r q. sym q) part parts studies) (sym (last-study rates claims h whole ow))
+      (studies-total win rates (accepted rates claims) (all-accepted rates claims) (win whole .first) (win whole .last) part parts ps)
 
   -- place i in every part
   module _ (i : ℕ) (l : i < length claims) where
@@ -316,10 +258,7 @@ module _ (rates : List ℕ) (claims : List Claim) (whole part : StudyRun) (parts
 pub demand-3 : Demand3
 demand-3 rates claims whole part parts h ow cons =
     record {
-      thirtieths = thirtieths-total rates claims whole part parts h ow cons;
-      closings = closings-total rates claims whole part parts h ow cons;
-      recoveries = recoveries-total rates claims whole part parts h ow cons;
-      deaths = deaths-total rates claims whole part parts h ow cons;
+      sums = sums-total rates claims whole part parts h ow cons;
       answer = λ i l. answer-own rates claims h i l whole ow;
       same-answer = same rates claims whole part parts h ow cons;
       counted = once rates claims whole part parts h ow cons;

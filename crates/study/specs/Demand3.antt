@@ -91,17 +91,18 @@ accepted rates (c ∷ cs) = pick (eqb (claimNumber rates c) 0) (c ∷ accepted r
 unfoldable pub closesIn : List ℕ → Claim → StudyRun → Bool
 closesIn rates c r = eqb (claimNumber rates c) 0 && closedIn c (dayNumber (r .first)) (dayNumber (r .last))
 
+-- the sums of the parts' studies total exactly those of the undivided window's study: in every group (a place of the list) the exposure, the
+-- closing counts under each category, the expected recoveries and the expected deaths
+pub record SumsTotal {R : Type 0} (study : R → Study) (whole : Study) (part : R) (parts : List R) : Type 0 where
+  pub thirtieths : (g : ℕ) → total _+ℤ_ (λ r. getD (study r .thirtieths) g (pos 0)) part parts ≡ getD (whole .thirtieths) g (pos 0)
+  pub closings : (k : ℕ) → total _+_ (λ r. getD (study r .closings) k 0) part parts ≡ getD (whole .closings) k 0
+  pub recoveries : (g : ℕ) → total _+ℤ_ (λ r. getD (study r .recoveries) g (pos 0)) part parts ≡ getD (whole .recoveries) g (pos 0)
+  pub deaths : (g : ℕ) → total _+ℤ_ (λ r. getD (study r .deaths) g (pos 0)) part parts ≡ getD (whole .deaths) g (pos 0)
+
 -- What demand 3 says of rates, a list of claims, the run over the undivided window, and the runs over its parts
 pub record AddsUp (rates : List ℕ) (claims : List Claim) (whole part : StudyRun) (parts : List StudyRun) : Type 0 where
-  -- 1. In every group (place of the list) the sums of the parts' last studies total exactly those of the undivided window's
-  pub thirtieths : (g : ℕ) → total _+ℤ_ (λ r. getD (lastStudy rates claims r .thirtieths) g (pos 0)) part parts
-      ≡ getD (lastStudy rates claims whole .thirtieths) g (pos 0)
-  pub closings : (k : ℕ) → total _+_ (λ r. getD (lastStudy rates claims r .closings) k 0) part parts
-      ≡ getD (lastStudy rates claims whole .closings) k 0
-  pub recoveries : (g : ℕ) → total _+ℤ_ (λ r. getD (lastStudy rates claims r .recoveries) g (pos 0)) part parts
-      ≡ getD (lastStudy rates claims whole .recoveries) g (pos 0)
-  pub deaths : (g : ℕ) → total _+ℤ_ (λ r. getD (lastStudy rates claims r .deaths) g (pos 0)) part parts
-      ≡ getD (lastStudy rates claims whole .deaths) g (pos 0)
+  -- 1. In every group the sums of the parts' last studies total exactly those of the undivided window's
+  pub sums : SumsTotal (lastStudy rates claims) (lastStudy rates claims whole) part parts
   -- 2. Every place gets the same answer in each run: the number that its claim and the rates have by themselves
   pub answer : (i : ℕ) → i < length claims → answerAt rates claims i whole ≡ claimNumber rates (claimAt claims i)
   pub same-answer : (i : ℕ) → i < length claims → EveryPart (λ r. answerAt rates claims i r ≡ answerAt rates claims i whole) part parts
