@@ -1,24 +1,24 @@
 -- A file run step by step, as the code's loops go: what feeding comes to at a refused run, at no bytes, at a part block and at a
 -- whole block, and a block by what begins it and by its claims one at a time.
 -- Assumes nothing.
-use Prim.Native.Nat.{ℕ, zero, suc, _+_, _-_, _*_, _/_, _%_, _≤_, _<_}
+use Prim.Native.Nat.{ℕ, zero, suc, _+_, _-_, _/_, _%_, _≤_, _<_}
 use mathlib.Core.Path.{_≡_, refl, sym, ap, _∙_}
 use mathlib.Core.Bool.{Bool, true, false, _&&_, and-false, and-eq-true-iff}
-use mathlib.Core.List.{List, [], _++_}
+use mathlib.Core.List.{List}
 use native.Mathlib.Omega.{arith}
 use lib.ListN.{length, take, drop, getD, length-drop, length-take}
 use lib.Seq.{take-all}
 use lib.Dec.{ltb, eqb}
-use borrow.Author.Tests.{eq-eqb, ne-eqb, lt-ltb, le-ltb, eqb-true}
+use borrow.Author.Tests.{eq-eqb, ne-eqb, lt-ltb, eqb-true}
 use Rattle.calendar.specs.Calendar.{pick}
-use Rattle.calendar.proofs.Tests.{by, tests, pick-is, is-pick}
+use Rattle.calendar.proofs.Tests.{by, tests, pick-is}
 use Rattle.study.specs.declared.Study.{Study}
 use Rattle.study.specs.declared.Answer.{Answer}
 use Rattle.study.specs.Study.{opened, added}
 use Rattle.claim_file.specs.declared.FileRun.{FileRun}
 use Rattle.claim_file.specs.Block.{byteAt, twoAt, blockNumber, dateFrom, blockClaim, claimCount, framed, windowBlock, claimBlock, blockSound}
 use Rattle.claim_file.specs.Begun.{begun}
-use Rattle.claim_file.specs.Run.{goesOn, stops, claimsFrom, windowOpened, blockFed, blocksFed, partFed, fed, ended}
+use Rattle.claim_file.specs.Run.{goesOn, stops, claimsFrom, windowOpened, blockFed, blocksFed, partFed, fed}
 use Rattle.claim_file.proofs.Tests.{claim-block, window-block}
 
 -- a sound block, as facts
@@ -74,11 +74,15 @@ pub begun-part : (s : Study) (due : ℕ) (bytes : List ℕ) → (length bytes �
 unfolding begun
 begun-part s due bytes h = rw (not-sound due bytes h)
 
--- a block by what begins it
+-- a block that an answer begins, and a claim that an answer adds at place k of n, as the test of the number refused comes out
+abbrev begins : FileRun → List ℕ → List ℕ → Answer → Bool → FileRun
+begins r rates bytes a t = pick t (claimsFrom r (a .study) rates bytes 0 (claimCount bytes)) (stops r (a .study) (a .refused) 0)
+
+abbrev adds : FileRun → List ℕ → List ℕ → ℕ → ℕ → Answer → Bool → FileRun
+adds r rates bytes k n a t = pick t (claimsFrom r (a .study) rates bytes k n) (stops r (a .study) (a .refused) k)
+
 block-begun : (r : FileRun) (rates bytes : List ℕ)
-    → blockFed r rates bytes ≡ pick (eqb (begun (r .study) (r .due) bytes .refused) 0)
-    (claimsFrom r (begun (r .study) (r .due) bytes .study) rates bytes 0 (claimCount bytes))
-    (stops r (begun (r .study) (r .due) bytes .study) (begun (r .study) (r .due) bytes .refused) 0)
+    → blockFed r rates bytes ≡ begins r rates bytes (begun (r .study) (r .due) bytes) (eqb (begun (r .study) (r .due) bytes .refused) 0)
 unfolding blockFed begun windowOpened claimsFrom
 block-begun r rates bytes =
     pick-is (blockSound (r .due) bytes)
@@ -131,33 +135,19 @@ fed-block r rates bytes e h =
     rw (q, eq-eqb _ _ e, m)
 
 -- claims one at a time
-module _ (r : FileRun) (s : Study) (rates bytes : List ℕ) (k n : ℕ) (h : k < n) where
-  claims-step : claimsFrom r s rates bytes k (n - k)
-      ≡ pick (eqb (added s (blockClaim bytes k) rates .refused) 0)
-      (claimsFrom r (added s (blockClaim bytes k) rates .study) rates bytes (k + 1) (n - (k + 1)))
-      (stops r (added s (blockClaim bytes k) rates .study) (added s (blockClaim bytes k) rates .refused) (k + 1))
+module _ (r : FileRun) (s : Study) (rates bytes : List ℕ) (k n : ℕ) (h : k < n) (a : Answer) (q : a ≡ added s (blockClaim bytes k) rates) where
+  claims-step : claimsFrom r s rates bytes k (n - k) ≡ adds r rates bytes (k + 1) (n - (k + 1)) a (eqb (a .refused) 0)
   unfolding claimsFrom
   claims-step =
       let e : n - k ≡ suc (n - (k + 1)) = omega arith in
       let g : suc k ≡ k + 1 = omega arith in
-      ap (claimsFrom r s rates bytes k) e
-      ∙ ap (λ (j : ℕ). pick (eqb (added s (blockClaim bytes k) rates .refused) 0)
-      (claimsFrom r (added s (blockClaim bytes k) rates .study) rates bytes j (n - (k + 1)))
-      (stops r (added s (blockClaim bytes k) rates .study) (added s (blockClaim bytes k) rates .refused) j)) g
+      ap (claimsFrom r s rates bytes k) e ∙ (λ i. adds r rates bytes (g i) (n - (k + 1)) (sym q i) (eqb (sym q i .refused) 0))
 
-  pub claims-on : (a : Answer) → a ≡ added s (blockClaim bytes k) rates → a .refused ≡ 0
-      → claimsFrom r s rates bytes k (n - k) ≡ claimsFrom r (a .study) rates bytes (k + 1) (n - (k + 1))
-  claims-on a q e =
-      claims-step
-      ∙ ap (λ (x : Answer). pick (eqb (x .refused) 0) (claimsFrom r (x .study) rates bytes (k + 1) (n - (k + 1))) (stops r (x .study) (x .refused) (k + 1))) (sym q)
-      ∙ ap (λ (t : Bool). pick t (claimsFrom r (a .study) rates bytes (k + 1) (n - (k + 1))) (stops r (a .study) (a .refused) (k + 1))) (eq-eqb _ _ e)
+  pub claims-on : a .refused ≡ 0 → claimsFrom r s rates bytes k (n - k) ≡ claimsFrom r (a .study) rates bytes (k + 1) (n - (k + 1))
+  claims-on e = claims-step ∙ ap (adds r rates bytes (k + 1) (n - (k + 1)) a) (eq-eqb _ _ e)
 
-  pub claims-off : (a : Answer) → a ≡ added s (blockClaim bytes k) rates → (a .refused ≡ 0 → ⊥)
-      → claimsFrom r s rates bytes k (n - k) ≡ stops r (a .study) (a .refused) (k + 1)
-  claims-off a q e =
-      claims-step
-      ∙ ap (λ (x : Answer). pick (eqb (x .refused) 0) (claimsFrom r (x .study) rates bytes (k + 1) (n - (k + 1))) (stops r (x .study) (x .refused) (k + 1))) (sym q)
-      ∙ ap (λ (t : Bool). pick t (claimsFrom r (a .study) rates bytes (k + 1) (n - (k + 1))) (stops r (a .study) (a .refused) (k + 1))) (ne-eqb _ _ e)
+  pub claims-off : (a .refused ≡ 0 → ⊥) → claimsFrom r s rates bytes k (n - k) ≡ stops r (a .study) (a .refused) (k + 1)
+  claims-off e = claims-step ∙ ap (adds r rates bytes (k + 1) (n - (k + 1)) a) (ne-eqb _ _ e)
 
 pub claims-start : (r : FileRun) (s : Study) (rates bytes : List ℕ) (n : ℕ) → claimsFrom r s rates bytes 0 n ≡ claimsFrom r s rates bytes 0 (n - 0)
 claims-start r s rates bytes n = let e : n ≡ n - 0 = omega arith in ap (claimsFrom r s rates bytes 0) e
@@ -177,13 +167,11 @@ part-is bytes from to e =
 
 -- feeding some bytes by their first block
 module _ (r : FileRun) (rates bytes part : List ℕ) (p : part ≡ take 512 bytes) (u : r .refused ≡ 0) (a : Answer) (q : a ≡ begun (r .study) (r .due) part) where
-  fed-first : 512 ≤ length bytes
-      → fed r rates bytes ≡ fed (pick (eqb (a .refused) 0) (claimsFrom r (a .study) rates part 0 (claimCount part)) (stops r (a .study) (a .refused) 0)) rates (drop 512 bytes)
+  fed-first : 512 ≤ length bytes → fed r rates bytes ≡ fed (begins r rates part a (eqb (a .refused) 0)) rates (drop 512 bytes)
   fed-first l =
       fed-block r rates bytes u l
       ∙ ap (λ (b : List ℕ). fed (blockFed r rates b) rates (drop 512 bytes)) (sym p)
-      ∙ ap (λ (x : FileRun). fed x rates (drop 512 bytes)) (block-begun r rates part)
-      ∙ ap (λ (x : Answer). fed (pick (eqb (x .refused) 0) (claimsFrom r (x .study) rates part 0 (claimCount part)) (stops r (x .study) (x .refused) 0)) rates (drop 512 bytes)) (sym q)
+      ∙ ap (λ (x : FileRun). fed x rates (drop 512 bytes)) (block-begun r rates part ∙ (λ i. begins r rates part (sym q i) (eqb (sym q i .refused) 0)))
 
   pub fed-stops : 0 < length bytes → (a .refused ≡ 0 → ⊥) → fed r rates bytes ≡ stops r (a .study) (a .refused) 0
   fed-stops l h =
@@ -195,7 +183,7 @@ module _ (r : FileRun) (rates bytes part : List ℕ) (p : part ≡ take 512 byte
       fed-part r rates bytes u l s ∙ ap (λ (x : Answer). stops r (x .study) (x .refused) 0) (sym b))
       (λ t.
       fed-first (omega tests)
-      ∙ ap (λ (t : Bool). fed (pick t (claimsFrom r (a .study) rates part 0 (claimCount part)) (stops r (a .study) (a .refused) 0)) rates (drop 512 bytes)) (ne-eqb _ _ h)
+      ∙ ap (λ (t : Bool). fed (begins r rates part a t) rates (drop 512 bytes)) (ne-eqb _ _ h)
       ∙ fed-refused (stops r (a .study) (a .refused) 0) rates (drop 512 bytes) (stops-refused r (a .study) (a .refused) 0 h))
 
   pub begun-so : a .refused ≡ 0 → Sound (r .due) part
@@ -206,4 +194,4 @@ module _ (r : FileRun) (rates bytes part : List ℕ) (p : part ≡ take 512 byte
   fed-claims h =
       let s = begun-so h .length-so in
       fed-first (omega (arith, ap length p, length-take 512 bytes))
-      ∙ ap (λ (t : Bool). fed (pick t (claimsFrom r (a .study) rates part 0 (claimCount part)) (stops r (a .study) (a .refused) 0)) rates (drop 512 bytes)) (eq-eqb _ _ h)
+      ∙ ap (λ (t : Bool). fed (begins r rates part a t) rates (drop 512 bytes)) (eq-eqb _ _ h)

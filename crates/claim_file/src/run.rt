@@ -2,7 +2,6 @@
 ghost use mathlib.Core.Path.{_≡_};
 ghost use Prim.Native.Nat.{_+_, _-_, _≤_, _<_};
 ghost use denote.Ref.{now};
-ghost use lib.ListN.{length};
 ghost use Rattle.claim_file.specs.Run.{started, goesOn, stops, fed, ended, fileRun};
 ghost use Rattle.claim_file.specs.Begun.{begun};
 use crate::FileRun;
@@ -110,11 +109,11 @@ impl FileRun {
                 let answer = study.add(claim_at(part, place), rates);
                 let after = answer.study;
                 study = after;
-                place += 1;
                 if answer.refused != 0 {
-                    run = run.stopped(study, answer.refused, place);
+                    run = run.stopped(study, answer.refused, place + 1);
                     break 'file;
                 }
+                place += 1;
             }
             run = run.continued(study);
             at = end;

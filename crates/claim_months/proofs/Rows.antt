@@ -28,7 +28,7 @@ use Rattle.claim_months.proofs.Spans.{runSpan, span-run, Runs, by-runs,
 
 -- ---- the record of a span's month
 
--- the claim month that starts in the calendar month i
+-- the claim month that starts in the calendar month i, and the next one
 module _ (c : Claim) (d : isDate (c .bcd) ≡ true) (n j i : ℕ) (h : i ≡ bcdMonth c + n + j) where
   pub start-is : startIn c i ≡ monthFirst c (1 + n + j)
   unfolding monthFirst
@@ -186,8 +186,7 @@ module _ (c : Claim) (b e : ℕ) where
       ∙ ap (λ (i : ℕ). drop i old) e2)
       ∙ ap (λ (x : List ℤ). x ++ drop (6 * (n + 1)) old) (sym (rows-next n k) ∙ ap (λ (i : ℕ). rows (run c b e k i)) (sym e1))
 
--- ---- the checks
-
+-- a span counts its records
 pub months-are : (rs : List MonthRecord) → spanOf rs .months ≡ length rs
 unfolding spanOf
 months-are [] = refl

@@ -59,11 +59,11 @@ pub struct ClaimMonth {
 }
 
 // A month record of a listing, with thirtieths `upper` − `lower`.
-pub struct Row {
-    pub duration: u32,
-    pub first: u32,
-    pub last: u32,
-    pub upper: u32,
-    pub lower: u32,
-    pub category: u8,
+struct Row {
+    duration: u32,
+    first: u32,
+    last: u32,
+    upper: u32,
+    lower: u32,
+    category: u8,
 }

@@ -73,7 +73,11 @@ claims-so c =
     fed-claims (run-of (turn-of c)) (rates-of (turn-of c)) (rest-of (turn-of c)) (part-of (turn-of c)) (part-so (turn-of c)) (turn-of c .before .before .file .inv .1)
     (c .before .before .before .begin .result) (c .before .before .before .begin .ensures) (c .if2 .left)
 
--- a claim that is added
+-- a claim that is added: its place, and the answer
+place-so : (c : tie.In-loop Inv-loop μ-loop Inv-file μ-file) → c .before .loop .place < 15
+unfolding claimCount byteAt
+place-so c = let s = sound-so (c .before .before .before) .count-so in omega arith
+
 added-so : (a : tie.After-add Inv-loop μ-loop Inv-file μ-file)
     → a .add .result
     ≡ added (a .before .before .before .loop .study) (blockClaim (part-of (turn-of (a .before .before .before .before .before))) (a .before .before .before .loop .place))
@@ -113,22 +117,19 @@ loop-holds : tie.Need-loop-holds Inv-loop μ-loop Inv-file μ-file
 loop-holds c = (refl, omega arith, claims-start _ _ _ _ _)
 
 claim-at-requires : tie.Need-claim-at-requires Inv-loop μ-loop Inv-file μ-file
-unfolding claimCount byteAt
-claim-at-requires c κs =
-    let s = sound-so (c .before .before .before) in
-    (s .length-so, omega arith)
+claim-at-requires c κs = (sound-so (c .before .before .before) .length-so, place-so c)
 
 add-requires : tie.Need-add-requires Inv-loop μ-loop Inv-file μ-file
 add-requires c κs = search needs
 
-add-place : tie.Need-add-place Inv-loop μ-loop Inv-file μ-file
-unfolding claimCount byteAt
-add-place c =
-    let s = sound-so (c .before .before .before .before .before .before) .count-so in
-    omega arith
+add-stopped : tie.Need-add-stopped Inv-loop μ-loop Inv-file μ-file
+add-stopped c = let p = place-so (c .before .before .before .before .before) in omega arith
 
 stopped-requires-2 : tie.Need-stopped-requires-2 Inv-loop μ-loop Inv-file μ-file
 stopped-requires-2 c κs = search needs
+
+add-place : tie.Need-add-place Inv-loop μ-loop Inv-file μ-file
+add-place c = let p = place-so (c .before .before .before .before .before) in omega arith
 
 loop-less : tie.Need-loop-less Inv-loop μ-loop Inv-file μ-file
 loop-less c = omega arith
@@ -137,7 +138,8 @@ loop-again : tie.Need-loop-again Inv-loop μ-loop Inv-file μ-file
 loop-again c =
     let a = c .before .before .before in
     let l = a .before .before .before in
-    (l .loop .inv .0, omega arith, l .loop .inv .2 ∙ claims-on _ (l .loop .study) _ _ _ _ (a .before .before .loop-test .taken) (a .add .result) (added-so a) (c .if3 .left))
+    let z : a .add .result .refused ≡ 0 = omega (arith, c .if3 .left) in
+    (l .loop .inv .0, omega arith, l .loop .inv .2 ∙ claims-on _ (l .loop .study) _ _ _ _ (a .before .before .loop-test .taken) (a .add .result) (added-so a) z)
 
 continued-requires : tie.Need-continued-requires Inv-loop μ-loop Inv-file μ-file
 unfolding byteAt
@@ -219,8 +221,9 @@ feed-spec =
     loop-holds
     claim-at-requires
     add-requires
-    add-place
+    add-stopped
     stopped-requires-2
+    add-place
     loop-less
     loop-again
     continued-requires
