@@ -1,0 +1,177 @@
+// Reading: `rates.bin` into the rate table, and standard input block by block into the file run.
+ghost use Prim.Native.Nat.{_+_, _*_, _/_, _≤_, _<_};
+ghost use denote.Ref.{now};
+ghost use lib.ListN.{length};
+use claim_file::FileRun;
+use libc::STDIN_FILENO;
+
+// How many bytes came, and whether a read failed.
+struct Filled {
+    count: usize,
+    failed: bool,
+}
+
+// A file run, and whether a further block is due.
+struct Step {
+    run: FileRun,
+    goes_on: bool,
+}
+
+// One read; no bytes at the end of the input, and none where it failed.
+fn read_some(fd: i32, bytes: &mut [u8]) -> Filled
+    ensures { λ r. ⌜ r .count ≤ length (now (bytes .entry)) ⌝ }
+{
+    let got = libc::read(fd, bytes);
+    Filled {
+        count: io::count(got, bytes),
+        failed: got < 0,
+    }
+}
+
+// Reads until the bytes are full, the input ends or a read fails: a pipe hands out fewer bytes than asked.
+fn fill(fd: i32, bytes: &mut [u8]) -> Filled
+    ensures { λ r. ⌜ r .count ≤ length (now (bytes .entry)) ⌝ }
+{
+    let mut done = 0;
+    while done < bytes.len() {
+        let some = read_some(fd, &mut bytes[done..]);
+        if some.count == 0 {
+            return Filled {
+                count: done,
+                failed: some.failed,
+            };
+        }
+        done += some.count;
+    }
+    Filled {
+        count: done,
+        failed: false,
+    }
+}
+
+fn fill_block(fd: i32, block: &mut [u8; 512]) -> Filled
+    ensures { λ r. ⌜ r .count ≤ 512 ⌝ }
+{
+    fill(fd, block)
+}
+
+fn wide(byte: u8) -> u32
+    ensures { λ r. ⌜ r < 256 ⌝ }
+{
+    byte as u32
+}
+
+// The number of four bytes, low byte first.
+fn rate_at(block: &[u8; 512], at: usize) -> u32
+    requires { ⌜ at + 4 ≤ 512 ⌝ }
+{
+    wide(block[at])
+        + wide(block[at + 1]) * 256
+        + wide(block[at + 2]) * 65536
+        + wide(block[at + 3]) * 16777216
+}
+
+// Puts the rates of a block into the table from a place on.
+fn put_rates(block: &[u8; 512], rates: usize, table: &mut [u32; 15328], from: usize)
+    requires { ⌜ rates ≤ 128 ⌝ }
+    requires { ⌜ from + rates ≤ 15328 ⌝ }
+{
+    let mut i = 0;
+    while i < rates {
+        table[from + i] = rate_at(block, 4 * i);
+        i += 1;
+    }
+}
+
+// Reads `rates.bin` into the table, and answers how many rates it has: none where it can't be read to its end, holds more than
+// 16 cells or has a part number left over.
+fn read_rates(fd: i32, table: &mut [u32; 15328]) -> usize
+    ensures { λ r. ⌜ r ≤ 15328 ⌝ }
+{
+    let mut block = [0u8; 512];
+    let mut rates = 0;
+    loop {
+        let filled = fill_block(fd, &mut block);
+        if filled.failed {
+            return 0;
+        }
+        if filled.count % 4 != 0 {
+            return 0;
+        }
+        let more = filled.count / 4;
+        if rates + more > 15328 {
+            return 0;
+        }
+        put_rates(&block, more, table, rates);
+        rates += more;
+        if more < 128 {
+            return rates;
+        }
+    }
+}
+
+// The run with the first bytes of a block fed.
+fn feed_bytes(run: FileRun, rates: &[u32], block: &[u8; 512], count: usize) -> FileRun
+    requires { ⌜ count ≤ 512 ⌝ }
+{
+    let bytes: &[u8] = block;
+    run.feed(rates, &bytes[0..count])
+}
+
+// Reads a block of standard input and feeds it to the run. A failed read must not look like the end of the file, so it counts
+// as a part block.
+fn next_block(run: FileRun, rates: &[u32]) -> Step {
+    let mut block = [0u8; 512];
+    let filled = fill_block(STDIN_FILENO, &mut block);
+    if filled.failed {
+        return Step {
+            run: feed_bytes(run, rates, &block, 1),
+            goes_on: false,
+        };
+    }
+    let count = filled.count;
+    let after = feed_bytes(run, rates, &block, count);
+    if after.refused != 0 {
+        return Step {
+            run: after,
+            goes_on: false,
+        };
+    }
+    Step {
+        run: after,
+        goes_on: count == 512,
+    }
+}
+
+// The file run of standard input. A proved loop has to end, and nothing says that the input does: the loop counts its turns
+// down, from a number that no run uses up.
+fn run_input(rates: &[u32]) -> FileRun {
+    let mut run = FileRun::start();
+    let mut turns = u64::MAX;
+    while turns > 0 {
+        let step = next_block(run, rates);
+        run = step.run;
+        if !step.goes_on {
+            break;
+        }
+        turns -= 1;
+    }
+    run.end()
+}
+
+// The file run of standard input under the first rates of the table.
+fn run_under(table: &[u32; 15328], count: usize) -> FileRun
+    requires { ⌜ count ≤ 15328 ⌝ }
+{
+    let rates: &[u32] = table;
+    run_input(&rates[0..count])
+}
+
+// The file run of standard input under the rates that a descriptor reads. The descriptor is closed first: with standard input
+// closed it has that number, and the rest of `rates.bin` is no claim file.
+pub fn run_with(fd: i32) -> FileRun {
+    let mut table = [0u32; 15328];
+    let count = read_rates(fd, &mut table);
+    libc::close(fd);
+    run_under(&table, count)
+}

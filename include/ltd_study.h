@@ -1,0 +1,42 @@
+/* The engine's calls for C and Rust. A slice is a pointer and a length. No call keeps a pointer or writes outside the lent lists.
+   A date is the claim file's four bytes as one number, low byte first: year + 65,536 × month + 16,777,216 × day.
+   A claim is eight numbers: claim number, disability date, BCD, termination date, maximum date, status, code, cell.
+   A refusal is the number of document 01's table. 255 says that a lent list has not the length asked for; nothing is written then. */
+#ifndef LTD_STUDY_H
+#define LTD_STUDY_H
+#include <stddef.h>
+#include <stdint.h>
+
+/* The month records of a claim in the window first..last, six numbers each into list. Answers how many, or 2^32 + the number refused
+   (1 to 5, 10), list untouched. */
+uint64_t ltd_listing(uint32_t first, uint32_t last, uint32_t number, uint32_t disability, uint32_t bcd, uint32_t termination,
+                     uint32_t maximum, uint8_t status, uint8_t code, uint8_t cell, int32_t *list, size_t list_len);
+
+/* The study of a whole claim file. Answers the number refused, or 0. Writes 46 numbers to out: number, block, claim place, first day
+   number and last day number of the window, claims taken; then for each group: thirtieths, five closing counts (recovery, death,
+   settlement, max-out, limit), expected recoveries, expected deaths. 255 if out is shorter than 46. */
+uint8_t ltd_study(const uint8_t *file, size_t file_len, const uint32_t *rates, size_t rates_len, int64_t *out, size_t out_len);
+
+/* z, m and T of a group into out (3 numbers). Answers 0, or 12. 255 if out is shorter than 3. */
+uint8_t ltd_factor(uint8_t group, uint32_t terminations, int64_t expected, uint64_t *out, size_t out_len);
+
+/* The valuation rate, or 2^32 + the number refused (6, 7, 8, 12). */
+uint64_t ltd_valuation_rate(const uint32_t *rates, size_t rates_len, uint8_t cell, uint64_t t, uint32_t duration);
+
+/* The reserve factor into out (1 number), t five numbers. Answers 0 or the number refused (6, 7, 8, 12, 13). 255 if t has not five
+   numbers or out none. */
+uint8_t ltd_reserve_factor(const uint32_t *rates, size_t rates_len, uint8_t cell, uint32_t first, const uint64_t *t, size_t t_len,
+                           uint32_t months, double v, double *out, size_t out_len);
+
+/* Reads a block at the number due into out (121 numbers). Block 0: 0, then the window's two dates, the rest untouched. A claim block: the
+   count, then fifteen claims of eight numbers, zeros past the count. Answers 0 or 11. 255 if out is shorter than 121. */
+uint8_t ltd_read_block(const uint8_t *block, size_t block_len, uint32_t due, uint32_t *out, size_t out_len);
+
+/* Writes a claim block with the first count claims of claims (eight numbers each) into block (512 bytes). Answers 0 or 11 (a number of
+   0 or above 65,535, a count above 15, a block that has not 512 bytes). 255 if claims is shorter than 8 × count. A status, code or cell
+   above 255 is 255 too. */
+uint8_t ltd_write_block(uint32_t number, uint32_t count, const uint32_t *claims, size_t claims_len, uint8_t *block, size_t block_len);
+
+/* Writes block 0 with a window's dates into block (512 bytes). Answers 0 or 11. */
+uint8_t ltd_write_window(uint32_t first, uint32_t last, uint8_t *block, size_t block_len);
+#endif

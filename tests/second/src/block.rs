@@ -1,0 +1,141 @@
+//! Claim file: blocks of 512 bytes, checked, read and written.
+
+use crate::calendar::Date;
+use crate::claim::Claim;
+use crate::Refusal;
+
+pub const BLOCK_LENGTH: usize = 512;
+pub const CLAIM_LENGTH: usize = 32;
+pub const MOST_IN_BLOCK: usize = 15;
+const COUNT_AT: usize = 2;
+const CLAIMS_AT: usize = 16;
+const WINDOW_END: usize = CLAIMS_AT + 8;
+pub const CHECK_AT: usize = 510;
+
+/// What a sound block holds.
+#[allow(clippy::large_enum_variant)]
+#[derive(Clone, Copy, Debug, PartialEq, Eq)]
+pub enum Block {
+    /// Block 0: the window's dates.
+    Window(Date, Date),
+    Claims(ClaimBlock),
+}
+
+/// The claims of a block; those past the count are all zero.
+#[derive(Clone, Copy, Debug, PartialEq, Eq)]
+pub struct ClaimBlock {
+    pub count: usize,
+    pub claims: [Claim; MOST_IN_BLOCK],
+}
+
+/// The sum over i = 0..509 of (i + 1) × byte i, modulo 65,521.
+pub fn check_sum(block: &[u8]) -> u16 {
+    let sum: u32 = block[..CHECK_AT].iter().zip(1u32..).map(|(&byte, weight)| weight * byte as u32).sum();
+    (sum % 65_521) as u16
+}
+
+/// Writes the check into a block.
+pub fn seal(block: &mut [u8]) {
+    let check = check_sum(block).to_le_bytes();
+    block[CHECK_AT..BLOCK_LENGTH].copy_from_slice(&check);
+}
+
+fn all_zero(bytes: &[u8]) -> bool {
+    bytes.iter().all(|&byte| byte == 0)
+}
+
+/// Reads the block whose number is due. Check 11.
+pub fn read_block(block: &[u8], due: u32) -> Result<Block, Refusal> {
+    if block.len() != BLOCK_LENGTH || block[CHECK_AT..] != check_sum(block).to_le_bytes() {
+        return Err(Refusal::Block);
+    }
+    let number = u16::from_le_bytes([block[0], block[1]]);
+    let count = block[COUNT_AT] as usize;
+    let most = if due == 0 { 0 } else { MOST_IN_BLOCK };
+    if number as u32 != due || count > most || !all_zero(&block[COUNT_AT + 1..CLAIMS_AT]) {
+        return Err(Refusal::Block);
+    }
+
+    if due == 0 {
+        if !all_zero(&block[WINDOW_END..CHECK_AT]) {
+            return Err(Refusal::Block);
+        }
+        return Ok(Block::Window(date_at(block, CLAIMS_AT), date_at(block, CLAIMS_AT + 4)));
+    }
+
+    let (used, unused) = block[CLAIMS_AT..CHECK_AT].split_at(count * CLAIM_LENGTH);
+    let mut claims = [Claim::default(); MOST_IN_BLOCK];
+    let mut zero = all_zero(unused);
+    for (claim, bytes) in claims.iter_mut().zip(used.chunks_exact(CLAIM_LENGTH)) {
+        zero &= all_zero(&bytes[23..]);
+        *claim = decode_claim(bytes);
+    }
+    if zero {
+        Ok(Block::Claims(ClaimBlock { count, claims }))
+    } else {
+        Err(Refusal::Block)
+    }
+}
+
+/// Writes a claim block. Check 11: the length, more than 15 claims, or claims as block 0; a number no block can carry is refused too.
+pub fn write_block(number: u32, claims: &[Claim], block: &mut [u8]) -> Result<(), Refusal> {
+    let carried = match u16::try_from(number) {
+        Ok(carried) if carried != 0 => carried,
+        _ => return Err(Refusal::Block),
+    };
+    if block.len() != BLOCK_LENGTH || claims.len() > MOST_IN_BLOCK {
+        return Err(Refusal::Block);
+    }
+    block.fill(0);
+    block[..2].copy_from_slice(&carried.to_le_bytes());
+    block[COUNT_AT] = claims.len() as u8;
+    for (bytes, claim) in block[CLAIMS_AT..].chunks_exact_mut(CLAIM_LENGTH).zip(claims) {
+        encode_claim(claim, bytes);
+    }
+    seal(block);
+    Ok(())
+}
+
+/// Writes block 0 with a window's dates. Check 11: the length.
+pub fn write_window(first: Date, last: Date, block: &mut [u8]) -> Result<(), Refusal> {
+    if block.len() != BLOCK_LENGTH {
+        return Err(Refusal::Block);
+    }
+    block.fill(0);
+    block[CLAIMS_AT..CLAIMS_AT + 4].copy_from_slice(&first.to_bytes());
+    block[CLAIMS_AT + 4..WINDOW_END].copy_from_slice(&last.to_bytes());
+    seal(block);
+    Ok(())
+}
+
+fn four(bytes: &[u8], at: usize) -> [u8; 4] {
+    [bytes[at], bytes[at + 1], bytes[at + 2], bytes[at + 3]]
+}
+
+fn date_at(bytes: &[u8], at: usize) -> Date {
+    Date::from_bytes(four(bytes, at))
+}
+
+fn decode_claim(bytes: &[u8]) -> Claim {
+    Claim {
+        number: u32::from_le_bytes(four(bytes, 0)),
+        disability: date_at(bytes, 4),
+        bcd: date_at(bytes, 8),
+        termination: date_at(bytes, 12),
+        maximum: date_at(bytes, 16),
+        status: bytes[20],
+        code: bytes[21],
+        cell: bytes[22],
+    }
+}
+
+fn encode_claim(claim: &Claim, bytes: &mut [u8]) {
+    bytes[..4].copy_from_slice(&claim.number.to_le_bytes());
+    bytes[4..8].copy_from_slice(&claim.disability.to_bytes());
+    bytes[8..12].copy_from_slice(&claim.bcd.to_bytes());
+    bytes[12..16].copy_from_slice(&claim.termination.to_bytes());
+    bytes[16..20].copy_from_slice(&claim.maximum.to_bytes());
+    bytes[20] = claim.status;
+    bytes[21] = claim.code;
+    bytes[22] = claim.cell;
+}

@@ -1,0 +1,44 @@
+//! A second implementation of document 01, written from that paper alone. The tests compare the first implementation with it, and the
+//! benchmark measures against it.
+//!
+//! Layers as in the paper: `calendar`, `claim` and `months`, `study`, `valuation`; beside them the claim file (`block`, `run`) and what
+//! the program prints (`report`); `generate` and `rng` make inputs for tests and loads.
+
+pub mod block;
+pub mod calendar;
+pub mod claim;
+pub mod generate;
+pub mod months;
+pub mod report;
+pub mod rng;
+pub mod run;
+pub mod study;
+pub mod valuation;
+
+#[cfg(feature = "first")]
+pub mod ffi;
+
+/// The refusals of document 01's table, under their numbers.
+#[derive(Clone, Copy, Debug, PartialEq, Eq)]
+#[repr(u8)]
+pub enum Refusal {
+    Window = 1,
+    Date = 2,
+    Status = 3,
+    Sequence = 4,
+    ShortElimination = 5,
+    RateTable = 6,
+    Cell = 7,
+    Rate = 8,
+    Full = 9,
+    ShortList = 10,
+    Block = 11,
+    Valuation = 12,
+    Discount = 13,
+}
+
+impl Refusal {
+    pub fn number(self) -> u8 {
+        self as u8
+    }
+}

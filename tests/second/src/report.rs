@@ -1,0 +1,35 @@
+//! The program: its rates file and what it prints.
+
+use crate::study::CELL_LENGTH;
+use crate::valuation::Factor;
+use std::fmt::Write;
+
+/// The program takes at most 16 cells.
+const MOST_PROGRAM_CELLS: usize = 16;
+
+/// The rates of `rates.bin`: four bytes each, low byte first; longer than 16 cells or with a part number left over, an empty table.
+pub fn decode_rates(bytes: &[u8]) -> Vec<u32> {
+    if bytes.len() > MOST_PROGRAM_CELLS * CELL_LENGTH * 4 || !bytes.len().is_multiple_of(4) {
+        return Vec::new();
+    }
+    bytes.chunks_exact(4).map(|b| u32::from_le_bytes([b[0], b[1], b[2], b[3]])).collect()
+}
+
+/// What the program prints of a run's 46 numbers; `factor` gives z, m and T of a group, C and E.
+pub fn report(numbers: &[i64; 46], factor: impl Fn(u8, u32, i64) -> Factor) -> String {
+    let [refused, block, place] = [numbers[0], numbers[1], numbers[2]];
+    if refused != 0 {
+        return format!("refused {refused} block {block} claim {place}\n");
+    }
+    let mut text = String::from("group exposure rec dea set max lim exprec expdea T\n");
+    for (group, row) in (1u8..).zip(numbers[6..].chunks_exact(8)) {
+        let c = (row[1] + row[2]) as u32;
+        let e = row[6] + row[7];
+        write!(text, "{group}").unwrap();
+        for number in row {
+            write!(text, " {number}").unwrap();
+        }
+        writeln!(text, " {}", factor(group, c, e).t).unwrap();
+    }
+    text
+}

@@ -1,0 +1,71 @@
+//! Claim file: the run over a whole file.
+
+use crate::block::{read_block, Block, BLOCK_LENGTH};
+use crate::study::{RateTable, Study};
+use crate::Refusal;
+
+/// What a file run gives: 0 for number, block and place if not refused, and the study (so far).
+#[derive(Clone, Copy, Debug, PartialEq, Eq)]
+pub struct FileRun {
+    pub refused: u8,
+    pub block: u32,
+    /// The claim's place in its block from 1; 0 for a block fault, a bad length or a bad window.
+    pub place: u32,
+    pub study: Study,
+}
+
+/// Runs blocks 0, 1, 2, .. in order up to the first refusal.
+pub fn run_file(file: &[u8], rates: &[u32]) -> FileRun {
+    let rates = RateTable::new(rates);
+    let mut study = Study::unopened();
+    match run_blocks(file, &rates, &mut study) {
+        Ok(()) => FileRun { refused: 0, block: 0, place: 0, study },
+        Err((refusal, block, place)) => FileRun { refused: refusal.number(), block, place, study },
+    }
+}
+
+fn run_blocks(file: &[u8], rates: &RateTable, study: &mut Study) -> Result<(), (Refusal, u32, u32)> {
+    // A file without block 0.
+    if file.is_empty() {
+        return Err((Refusal::Block, 0, 0));
+    }
+    // A part block at the end comes last and fails by its length.
+    for (due, bytes) in (0u32..).zip(file.chunks(BLOCK_LENGTH)) {
+        match read_block(bytes, due).map_err(|refusal| (refusal, due, 0))? {
+            Block::Window(first, last) => {
+                *study = Study::open(first, last).map_err(|refusal| (refusal, due, 0))?;
+            }
+            Block::Claims(block) => {
+                for (place, claim) in (1u32..).zip(&block.claims[..block.count]) {
+                    study.add(claim, rates).map_err(|refusal| (refusal, due, place))?;
+                }
+            }
+        }
+    }
+    Ok(())
+}
+
+impl FileRun {
+    /// Number, block, place, window, claims taken, then eight sums for each group.
+    pub fn numbers(&self) -> [i64; 46] {
+        let study = &self.study;
+        let mut numbers = [0; 46];
+        numbers[..6].copy_from_slice(&[
+            self.refused as i64,
+            self.block as i64,
+            self.place as i64,
+            study.window.first.0 as i64,
+            study.window.last.0 as i64,
+            study.claims_taken as i64,
+        ]);
+        for (row, group) in numbers[6..].chunks_exact_mut(8).zip(&study.groups) {
+            row[0] = group.thirtieths;
+            for (number, &count) in row[1..6].iter_mut().zip(&group.closings) {
+                *number = count as i64;
+            }
+            row[6] = group.expected_recoveries;
+            row[7] = group.expected_deaths;
+        }
+        numbers
+    }
+}
