@@ -1,0 +1,87 @@
+-- `placed` meets its contract. The loop's invariant: the claims passed stand in their places. Assumes nothing.
+use mathlib.Core.Path.{_≡_, refl, sym, ap, _∙_}
+use native.Mathlib.Omega.{arith}
+use Prim.Native.Nat.{ℕ, suc, _+_, _*_, _-_, _≤_}
+use mathlib.Core.List.{List}
+use lib.ListN.{set, replicate}
+use Rattle.claim_months.specs.declared.Claim.{Claim}
+use Rattle.c_abi.specs.Abi.{claimAt, placed}
+use Rattle.c_abi.proofs.Claims.{bytes-all}
+use Rattle.c_abi.proofs.block.placed.Statement.{statement}
+use Rattle.c_abi.proofs.block.placed.Tie as tie
+
+more : (numbers : List ℕ) (n : ℕ) (claims : List Claim) (k : Claim) → k ≡ claimAt numbers (8 * n) → claims ≡ placed numbers n
+    → set claims n k ≡ placed numbers (n + 1)
+unfolding placed
+more numbers n claims k e q =
+    let s : suc n ≡ n + 1 = omega arith in
+    (λ i. set (q i) n (e i)) ∙ ap (placed numbers) s
+
+abbrev Inv-loop : tie.InvT-loop
+Inv-loop numbers count claims₀ place₀ claims place = (place ≤ count) × (claims ≡ placed numbers place)
+
+abbrev μ-loop : tie.MeasureT-loop
+μ-loop numbers count claims₀ place₀ claims place = count - place
+
+no-claim-requires : tie.Need-no-claim-requires Inv-loop μ-loop
+no-claim-requires c κs = tt
+
+loop-holds : tie.Need-loop-holds Inv-loop μ-loop
+unfolding placed
+loop-holds c = (omega arith, ap (λ (k : Claim). replicate 15 k) (c .no-claim .ensures))
+
+cast-claim-at : tie.Need-cast-claim-at Inv-loop μ-loop
+cast-claim-at c = omega arith
+
+mul-claim-at : tie.Need-mul-claim-at Inv-loop μ-loop
+mul-claim-at c = omega arith
+
+claim-at-requires : tie.Need-claim-at-requires Inv-loop μ-loop
+claim-at-requires c κs =
+    let s = c .before .before .before .before in
+    (omega arith, bytes-all (s .args .numbers .now) (s .args .count) (s .pre .1 .1) (c .before .loop .place) (omega arith))
+
+cast-claims : tie.Need-cast-claims Inv-loop μ-loop
+cast-claims c = omega arith
+
+mul-claims : tie.Need-mul-claims Inv-loop μ-loop
+mul-claims c = omega arith
+
+array-set-from-claims : tie.Need-array-set-from-claims Inv-loop μ-loop
+array-set-from-claims c = omega arith
+
+add-place : tie.Need-add-place Inv-loop μ-loop
+add-place c = omega arith
+
+loop-less : tie.Need-loop-less Inv-loop μ-loop
+loop-less c = omega arith
+
+loop-again : tie.Need-loop-again Inv-loop μ-loop
+loop-again c =
+    let l = c .before .before .loop in
+    (omega arith, more _ (l .place) (l .claims) _ (c .claim-at .ensures) (l .inv .1))
+
+returns : tie.Need-returns Inv-loop μ-loop
+returns c =
+    let l = c .before .loop in
+    let e : l .place ≡ c .before .before .before .before .args .count = omega arith in
+    l .inv .1 ∙ ap (placed _) e
+
+pub placed-spec : {M : Type 1} → statement M
+placed-spec =
+    tie.close
+    (tie.spec
+    Inv-loop
+    μ-loop
+    no-claim-requires
+    loop-holds
+    cast-claim-at
+    mul-claim-at
+    claim-at-requires
+    cast-claims
+    mul-claims
+    array-set-from-claims
+    add-place
+    loop-less
+    loop-again
+    returns)

@@ -1,0 +1,119 @@
+-- `ltd_reserve_factor` meets its contract: T has five numbers and the list room, and what `reserve_factor` answers is stored. Assumes nothing.
+use mathlib.Core.Path.{_≡_, refl, sym, ap, _∙_}
+use Prim.Native.Nat.{ℕ, _≤_, _<_}
+use mathlib.Core.List.{List, [], _∷_}
+use native.Mathlib.Omega.{arith}
+use lib.Ieee.{Float}
+use lib.ListN.{length, getD, set}
+use borrow.Author.Tests.{eq-eqb, ne-eqb}
+use Rattle.valuation.specs.declared.Reserve.{Reserve}
+use Rattle.valuation.specs.declared.Reserve.the-variants.{Factor, Refused}
+use Rattle.valuation.specs.Reserve.{reserveIn}
+use Rattle.c_abi.specs.Abi.{reserveNumber, reserveStored, reserveAnswered, reserveAfter}
+use Rattle.c_abi.proofs.Lent.{short, long}
+use borrow.Author.Needs.{needs}
+use Rattle.c_abi.proofs.factors.ltd_reserve_factor.Statement.{statement}
+use Rattle.c_abi.proofs.factors.ltd_reserve_factor.Tie as tie
+
+-- five numbers are the list that holds them
+five : (t : List ℕ) → length t ≡ 5 → getD t 0 0 ∷ getD t 1 0 ∷ getD t 2 0 ∷ getD t 3 0 ∷ getD t 4 0 ∷ [] ≡ t
+five [] e = absurd (omega arith)
+five (a ∷ []) e = absurd (omega arith)
+five (a ∷ b ∷ []) e = absurd (omega arith)
+five (a ∷ b ∷ c ∷ []) e = absurd (omega arith)
+five (a ∷ b ∷ c ∷ d ∷ []) e = absurd (omega arith)
+five (a ∷ b ∷ c ∷ d ∷ f ∷ []) e = refl
+five (a ∷ b ∷ c ∷ d ∷ f ∷ g ∷ t) e = absurd (omega arith)
+
+module _ (t : List ℕ) (old : List Float) (a : Reserve) where
+  not-five : (length t ≡ 5 → ⊥) → (255 ≡ reserveAnswered t old a) × (old ≡ reserveAfter t old a)
+  unfolding reserveAnswered reserveAfter
+  not-five h = (rw (ne-eqb (length t) 5 h) refl, rw (ne-eqb (length t) 5 h) refl)
+
+  no-room : length t ≡ 5 → length old < 1 → (255 ≡ reserveAnswered t old a) × (old ≡ reserveAfter t old a)
+  unfolding reserveAnswered reserveAfter
+  no-room h k = rw (eq-eqb (length t) 5 h) (short 1 old (reserveNumber a) (reserveStored old a) k)
+
+  lent : (r : ℕ) (l : List Float) → length t ≡ 5 → 1 ≤ length old → r ≡ reserveNumber a → l ≡ reserveStored old a
+      → (r ≡ reserveAnswered t old a) × (l ≡ reserveAfter t old a)
+  unfolding reserveAnswered reserveAfter
+  lent r l h k e f = rw (eq-eqb (length t) 5 h) (long 1 old (reserveNumber a) (reserveStored old a) r l k e f)
+
+returns : tie.Need-returns
+returns c = not-five _ _ _ (c .if1 .taken)
+
+returns-2 : tie.Need-returns-2
+returns-2 c = no-room _ _ _ (c .before .if1 .left) (c .if2 .taken)
+
+shared-slice-read-t15 : tie.Need-shared-slice-read-t15
+shared-slice-read-t15 c = search needs
+
+shared-slice-read-t17 : tie.Need-shared-slice-read-t17
+shared-slice-read-t17 c = search needs
+
+shared-slice-read-t19 : tie.Need-shared-slice-read-t19
+shared-slice-read-t19 c = search needs
+
+shared-slice-read-t21 : tie.Need-shared-slice-read-t21
+shared-slice-read-t21 c = search needs
+
+shared-slice-read-t23 : tie.Need-shared-slice-read-t23
+shared-slice-read-t23 c = search needs
+
+reserve-factor-requires : tie.Need-reserve-factor-requires
+reserve-factor-requires c κs = search needs
+
+enum-known-factor : tie.Need-enum-known-factor
+enum-known-factor c = search needs
+
+slice-write-out : tie.Need-slice-write-out
+slice-write-out c = search needs
+
+enum-known-number : tie.Need-enum-known-number
+enum-known-number c = search needs
+
+same-length : tie.Need-same-length
+same-length c = search needs
+
+returns-3 : tie.Need-returns-3
+unfolding reserveNumber reserveStored
+returns-3 c =
+    let f = c .before in
+    let r = f .before .before in
+    let e = r .before .before .before .before .before .before in
+    let s = e .before .before .before .before .before .args in
+    let h : length (s .t .now) ≡ 5 = e .before .if1 .left in
+    let q = sym (f .factor .given .1) ∙ r .reserve-factor .ensures
+    ∙ ap (λ (t : List ℕ). reserveIn (s .rates .now) (s .cell) (s .first) t (s .months) (s .v)) (five (s .t .now) h) in
+    lent (s .t .now) (s .out .now) _ _ _ h (e .if2 .left) (ap reserveNumber q) (ap (reserveStored (s .out .now)) q)
+
+returns-4 : tie.Need-returns-4
+unfolding reserveNumber reserveStored
+returns-4 c =
+    let f = c .before in
+    let r = f .before .before in
+    let e = r .before .before .before .before .before .before in
+    let s = e .before .before .before .before .before .args in
+    let h : length (s .t .now) ≡ 5 = e .before .if1 .left in
+    let q = sym (f .number .given .1) ∙ r .reserve-factor .ensures
+    ∙ ap (λ (t : List ℕ). reserveIn (s .rates .now) (s .cell) (s .first) t (s .months) (s .v)) (five (s .t .now) h) in
+    lent (s .t .now) (s .out .now) _ _ _ h (e .if2 .left) (ap reserveNumber q) (ap (reserveStored (s .out .now)) q)
+
+pub ltd-reserve-factor-spec : {M : Type 1} → statement M
+ltd-reserve-factor-spec =
+    tie.close
+    (tie.spec
+    returns
+    returns-2
+    shared-slice-read-t15
+    shared-slice-read-t17
+    shared-slice-read-t19
+    shared-slice-read-t21
+    shared-slice-read-t23
+    reserve-factor-requires
+    enum-known-factor
+    slice-write-out
+    enum-known-number
+    same-length
+    returns-3
+    returns-4)

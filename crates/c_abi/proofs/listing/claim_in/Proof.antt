@@ -1,0 +1,42 @@
+-- `claim_in` meets its contract, date by date. Assumes nothing.
+use mathlib.Core.Path.{_≡_, refl, sym, ap, _∙_}
+use Rattle.c_abi.specs.Abi.{claimIn}
+use borrow.Author.Needs.{needs}
+use Rattle.c_abi.proofs.listing.claim_in.Statement.{statement}
+use Rattle.c_abi.proofs.listing.claim_in.Tie as tie
+
+date-in-requires : tie.Need-date-in-requires
+date-in-requires c κs = search needs
+
+date-in-requires-2 : tie.Need-date-in-requires-2
+date-in-requires-2 c κs = search needs
+
+date-in-requires-3 : tie.Need-date-in-requires-3
+date-in-requires-3 c κs = search needs
+
+date-in-requires-4 : tie.Need-date-in-requires-4
+date-in-requires-4 c κs = search needs
+
+returns : tie.Need-returns
+unfolding claimIn
+returns c =
+    let c3 = c .before in
+    let c2 = c3 .before in
+    let c1 = c2 .before in
+    let s = c1 .before .args in
+    λ i.
+    record {
+      number = s .number;
+      disability = c1 .date-in .ensures i;
+      bcd = c2 .date-in2 .ensures i;
+      termination = c3 .date-in3 .ensures i;
+      maximum = c .date-in4 .ensures i;
+      status = s .status;
+      code = s .code;
+      cell = s .cell;
+    }
+
+pub claim-in-spec : {M : Type 1} → statement M
+claim-in-spec =
+    tie.close
+    (tie.spec date-in-requires date-in-requires-2 date-in-requires-3 date-in-requires-4 returns)

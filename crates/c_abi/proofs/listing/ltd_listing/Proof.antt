@@ -1,0 +1,93 @@
+-- `ltd_listing` meets its contract. Assumes nothing.
+use mathlib.Core.Path.{_≡_, refl, sym, ap, _∙_}
+use Prim.Native.Nat.{ℕ}
+use mathlib.Core.List.{List}
+use lib.IntN.{ℤ}
+use lib.ListN.{length}
+use Rattle.calendar.specs.declared.Date.{Date}
+use Rattle.claim_months.specs.declared.Claim.{Claim}
+use Rattle.claim_months.specs.declared.Listed.{Listed}
+use Rattle.claim_months.specs.declared.Listed.the-variants.{Months, Refused}
+use Rattle.claim_months.specs.Listing.{listingOf, listAfter}
+use Rattle.c_abi.specs.Abi.{refusedNumber, listedNumber}
+use borrow.Author.Needs.{needs}
+use Rattle.c_abi.proofs.listing.ltd_listing.Statement.{statement}
+use Rattle.c_abi.proofs.listing.ltd_listing.Tie as tie
+
+-- dates and claim are those of the numbers
+module _ (old l : List ℤ) (b b′ e e′ : Date) (k k′ : Claim) (m : Listed) (hb : b ≡ b′) (he : e ≡ e′) (hk : k ≡ k′)
+    (answer : m ≡ listingOf b e k (length old)) (left : l ≡ listAfter b e k old) where
+  answers : (n : ℕ) → n ≡ listedNumber m → (n ≡ listedNumber (listingOf b′ e′ k′ (length old))) × (l ≡ listAfter b′ e′ k′ old)
+  answers n q = (
+    q ∙ ap listedNumber (answer ∙ (λ i. listingOf (hb i) (he i) (hk i) (length old))),
+    left ∙ (λ i. listAfter (hb i) (he i) (hk i) old),
+  )
+
+claim-in-requires : tie.Need-claim-in-requires
+claim-in-requires c κs = search needs
+
+date-in-requires : tie.Need-date-in-requires
+date-in-requires c κs = search needs
+
+date-in-requires-2 : tie.Need-date-in-requires-2
+date-in-requires-2 c κs = search needs
+
+list-months-requires : tie.Need-list-months-requires
+list-months-requires c κs = search needs
+
+enum-known-months : tie.Need-enum-known-months
+enum-known-months c = search needs
+
+cast-result : tie.Need-cast-result
+cast-result c = search needs
+
+enum-known-refused : tie.Need-enum-known-refused
+enum-known-refused c = search needs
+
+cast-result-2 : tie.Need-cast-result-2
+cast-result-2 c = search needs
+
+add-result : tie.Need-add-result
+add-result c = search needs
+
+same-length : tie.Need-same-length
+same-length c = search needs
+
+returns : tie.Need-returns
+unfolding listedNumber
+returns c =
+    let m = c .before in
+    let l = m .before .before .before in
+    let e = l .before .before in
+    answers (e .before .before .before .args .list .now) _ _ _ _ _ _ _ _ (e .before .date-in .ensures) (e .date-in2 .ensures) (e .before .before .claim-in .ensures)
+    (l .list-months .ensures .0) (l .list-months .ensures .1) _ (ap listedNumber (sym (m .months .given .1)))
+
+same-length-2 : tie.Need-same-length-2
+same-length-2 c = search needs
+
+returns-2 : tie.Need-returns-2
+unfolding listedNumber
+returns-2 c =
+    let m = c .before in
+    let l = m .before .before .before in
+    let e = l .before .before in
+    answers (e .before .before .before .args .list .now) _ _ _ _ _ _ _ _ (e .before .date-in .ensures) (e .date-in2 .ensures) (e .before .before .claim-in .ensures)
+    (l .list-months .ensures .0) (l .list-months .ensures .1) _ (ap listedNumber (sym (m .refused .given .1)))
+
+pub ltd-listing-spec : {M : Type 1} → statement M
+ltd-listing-spec =
+    tie.close
+    (tie.spec
+    claim-in-requires
+    date-in-requires
+    date-in-requires-2
+    list-months-requires
+    enum-known-months
+    cast-result
+    enum-known-refused
+    cast-result-2
+    add-result
+    same-length
+    returns
+    same-length-2
+    returns-2)

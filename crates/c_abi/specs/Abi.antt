@@ -1,0 +1,164 @@
+-- What each call for C and Rust answers, and what each lent list holds at exit, on every input, in terms of the layers below.
+use Prim.Native.Nat.{ℕ, zero, suc, _+_, _*_, _/_, _%_}
+use mathlib.Core.Bool.{Bool, true, _&&_}
+use mathlib.Core.List.{List, [], _∷_, _++_}
+use lib.ListN.{length, getD, set, replicate}
+use lib.Seq.{sets}
+use lib.Dec.{leb, ltb, eqb}
+use lib.IntN.{ℤ, pos}
+use Rattle.calendar.specs.declared.Date.{Date}
+use Rattle.calendar.specs.Calendar.{pick}
+use Rattle.claim_months.specs.declared.Claim.{Claim}
+use Rattle.claim_months.specs.declared.Listed.{Listed}
+use Rattle.claim_months.specs.declared.Listed.the-variants as listed
+use Rattle.valuation.specs.declared.MaybeRate.{MaybeRate}
+use Rattle.valuation.specs.declared.MaybeRate.the-variants as rated
+use Rattle.valuation.specs.declared.MaybeFactor.{MaybeFactor}
+use Rattle.valuation.specs.declared.MaybeFactor.the-variants as factored
+use lib.Ieee.{Float}
+use Rattle.valuation.specs.declared.Reserve.{Reserve}
+use Rattle.valuation.specs.declared.Reserve.the-variants as reserved
+use Rattle.study.specs.declared.Study.{Study}
+use Rattle.claim_file.specs.declared.FileRun.{FileRun}
+use Rattle.claim_file.specs.declared.Block.{Block}
+use Rattle.claim_file.specs.declared.BlockRead.{BlockRead}
+use Rattle.claim_file.specs.declared.MaybeWindow.{MaybeWindow}
+use Rattle.claim_file.specs.declared.MaybeWindow.the-variants as windowed
+use Rattle.claim_file.specs.Answers.{noClaim, writeCheck, bytesAfter}
+
+-- a refusal where the answer is a number: 2^32 + the number refused
+abbrev pub refusedNumber : ℕ → ℕ
+refusedNumber n = 4294967296 + n
+
+-- a date's number: the claim file's four bytes, low byte first
+unfoldable pub dateIn : ℕ → Date
+dateIn n = record { year = n % 65536; month = n / 65536 % 256; day = n / 16777216 }
+
+unfoldable pub claimIn : ℕ → ℕ → ℕ → ℕ → ℕ → ℕ → ℕ → ℕ → Claim
+claimIn number disability bcd termination maximum status code cell =
+    record {
+      number = number;
+      disability = dateIn disability;
+      bcd = dateIn bcd;
+      termination = dateIn termination;
+      maximum = dateIn maximum;
+      status = status;
+      code = code;
+      cell = cell;
+    }
+
+-- ltd_valuation_rate
+unfoldable pub rateNumber : MaybeRate → ℕ
+rateNumber (rated.Rate r) = r
+rateNumber (rated.Refused n) = refusedNumber n
+
+-- ltd_listing
+unfoldable pub listedNumber : Listed → ℕ
+listedNumber (listed.Months n) = n
+listedNumber (listed.Refused n) = refusedNumber n
+
+-- ltd_factor: z, m and T, or the list as it was
+unfoldable pub factorNumber : MaybeFactor → ℕ
+factorNumber (factored.Known f) = 0
+factorNumber (factored.Refused n) = n
+
+unfoldable pub factorStored : List ℕ → MaybeFactor → List ℕ
+factorStored old (factored.Known f) = sets old 0 (f .z ∷ f .m ∷ f .t ∷ [])
+factorStored old (factored.Refused n) = old
+
+-- a lent list shorter than asked for is answered 255, and keeps what it holds
+abbrev pub answered : {A : Type 0} → ℕ → List A → ℕ → ℕ
+answered asked old number = pick (ltb (length old) asked) 255 number
+
+abbrev pub stored : {A : Type 0} → ℕ → List A → List A → List A
+stored asked old new = pick (ltb (length old) asked) old new
+
+-- ltd_reserve_factor: the factor, or the list as it was
+unfoldable pub reserveNumber : Reserve → ℕ
+reserveNumber (reserved.Factor f) = 0
+reserveNumber (reserved.Refused n) = n
+
+unfoldable pub reserveStored : List Float → Reserve → List Float
+reserveStored old (reserved.Factor f) = sets old 0 (f ∷ [])
+reserveStored old (reserved.Refused n) = old
+
+-- 255 too where T has not five numbers
+unfoldable pub reserveAnswered : List ℕ → List Float → Reserve → ℕ
+reserveAnswered t old r = pick (eqb (length t) 5) (answered 1 old (reserveNumber r)) 255
+
+unfoldable pub reserveAfter : List ℕ → List Float → Reserve → List Float
+reserveAfter t old r = pick (eqb (length t) 5) (stored 1 old (reserveStored old r)) old
+
+-- ltd_study: the eight numbers of a group, by its place from 0, and those of the first n groups
+unfoldable pub groupNumbers : Study → ℕ → List ℤ
+groupNumbers s k =
+    getD (s .thirtieths) k (pos 0) ∷ pos (getD (s .closings) (5 * k) 0) ∷ pos (getD (s .closings) (5 * k + 1) 0)
+    ∷ pos (getD (s .closings) (5 * k + 2) 0) ∷ pos (getD (s .closings) (5 * k + 3) 0) ∷ pos (getD (s .closings) (5 * k + 4) 0)
+    ∷ getD (s .recoveries) k (pos 0) ∷ getD (s .deaths) k (pos 0) ∷ []
+
+unfoldable pub groupsNumbers : Study → ℕ → List ℤ
+groupsNumbers s zero = []
+groupsNumbers s (suc n) = groupsNumbers s n ++ groupNumbers s n
+
+abbrev pub headNumbers : FileRun → List ℤ
+headNumbers r =
+    pos (r .refused) ∷ pos (r .block) ∷ pos (r .place) ∷ pos (r .study .first .0) ∷ pos (r .study .last .0) ∷ pos (r .study .taken) ∷ []
+
+unfoldable pub runNumbers : FileRun → List ℤ
+runNumbers r = headNumbers r ++ groupsNumbers (r .study) 5
+
+-- a date as one number
+unfoldable pub dateNumber : Date → ℕ
+dateNumber d = d .year + 65536 * d .month + 16777216 * d .day
+
+-- a claim as eight numbers
+abbrev pub claimDates : Claim → List ℕ
+claimDates c = dateNumber (c .disability) ∷ dateNumber (c .bcd) ∷ dateNumber (c .termination) ∷ dateNumber (c .maximum) ∷ []
+
+unfoldable pub claimNumbers : Claim → List ℕ
+claimNumbers c = c .number ∷ (claimDates c ++ (c .status ∷ c .code ∷ c .cell ∷ []))
+
+unfoldable pub claimsNumbers : List Claim → List ℕ
+claimsNumbers [] = []
+claimsNumbers (c ∷ cs) = claimNumbers c ++ claimsNumbers cs
+
+-- ltd_read_block: block 0, and a claim block
+unfoldable pub windowStored : List ℕ → MaybeWindow → List ℕ
+windowStored old (windowed.Known w) = sets old 0 (0 ∷ dateNumber (w .first) ∷ dateNumber (w .last) ∷ [])
+windowStored old (windowed.Refused n) = old
+
+unfoldable pub readStored : List ℕ → BlockRead → List ℕ
+readStored old r = pick (eqb (r .refused) 0) (sets old 0 (r .block .count ∷ claimsNumbers (r .block .claims))) old
+
+-- ltd_write_block: the claim whose eight numbers start at a place, if status, code and cell are bytes
+unfoldable pub claimAt : List ℕ → ℕ → Claim
+claimAt numbers i =
+    claimIn (getD numbers i 0) (getD numbers (i + 1) 0) (getD numbers (i + 2) 0) (getD numbers (i + 3) 0) (getD numbers (i + 4) 0)
+    (getD numbers (i + 5) 0) (getD numbers (i + 6) 0) (getD numbers (i + 7) 0)
+
+unfoldable pub bytesAt : List ℕ → ℕ → Bool
+bytesAt numbers i = leb (getD numbers (i + 5) 0) 255 && leb (getD numbers (i + 6) 0) 255 && leb (getD numbers (i + 7) 0) 255
+
+-- the same of the first n claims
+unfoldable pub allBytes : List ℕ → ℕ → Bool
+allBytes numbers zero = true
+allBytes numbers (suc n) = allBytes numbers n && bytesAt numbers (8 * n)
+
+-- fifteen places with the first n claims in them, zeros past them
+unfoldable pub placed : List ℕ → ℕ → List Claim
+placed numbers zero = replicate 15 noClaim
+placed numbers (suc n) = set (placed numbers n) n (claimAt numbers (8 * n))
+
+unfoldable pub blockOf : List ℕ → ℕ → Block
+blockOf numbers count = record { count = count; claims = placed numbers count }
+
+-- the numbers lent are those of the claims, each with its three bytes
+unfoldable pub writeAnswer : ℕ → ℕ → List ℕ → List ℕ → ℕ
+writeAnswer number count numbers old =
+    pick (ltb (length numbers) (8 * count)) 255
+    (pick (leb count 15) (pick (allBytes numbers count) (writeCheck number count (length old)) 255) 11)
+
+unfoldable pub writeAfter : ℕ → ℕ → List ℕ → List ℕ → List ℕ
+writeAfter number count numbers old =
+    pick (ltb (length numbers) (8 * count)) old
+    (pick (leb count 15) (pick (allBytes numbers count) (bytesAfter number (blockOf numbers count) old) old) old)

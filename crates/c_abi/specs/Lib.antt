@@ -1,0 +1,2 @@
+-- What the calls for C and Rust answer, and what they leave in the lent lists.
+pub mod Abi
