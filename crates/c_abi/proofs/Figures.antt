@@ -3,9 +3,8 @@
 use Prim.Native.Nat.{ℕ, zero, suc, _+_, _*_, _<_}
 use mathlib.Core.Path.{_≡_, refl, ap, _∙_}
 use native.Mathlib.Omega.{arith}
-use native.Mathlib.Numerals.{add-one}
-use mathlib.Core.List.{List, [], _∷_, _++_}
-use lib.IntN.{ℤ, pos}
+use mathlib.Core.List.{_++_}
+use lib.IntN.{pos}
 use lib.ListN.{length, length-append}
 use mir.Syntax.{w64}
 use mir.Val.{toZ, ofZ}

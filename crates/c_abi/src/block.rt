@@ -8,7 +8,7 @@ ghost use lib.ListN.{length};
 ghost use lib.Seq.{sets};
 ghost use Rattle.calendar.specs.Calendar.{pick};
 ghost use Rattle.claim_file.specs.Answers.{noClaim, blockCheck, windowOf, readOf, windowAfter};
-ghost use Rattle.c_abi.specs.Abi.{dateIn, claimIn, dateNumber, claimDates, claimNumbers, claimsNumbers, windowStored, readStored, claimAt, bytesAt, allBytes, placed, blockOf, writeAnswer, writeAfter, answered, stored};
+ghost use Rattle.c_abi.specs.Abi.{dateIn, dateNumber, claimDates, claimNumbers, claimsNumbers, windowStored, readStored, claimAt, bytesAt, allBytes, placed, writeAnswer, writeAfter, answered, stored};
 use crate::listing::claim_in;
 use crate::listing::date_in;
 use calendar::Date;

@@ -1,7 +1,7 @@
 -- `all_bytes` meets its contract. The loop's invariant: the claims that are left decide. Assumes nothing.
 use mathlib.Core.Path.{_≡_, refl, sym, ap, _∙_}
 use native.Mathlib.Omega.{arith}
-use Prim.Native.Nat.{ℕ, _-_, _≤_}
+use Prim.Native.Nat.{_≤_}
 use borrow.Author.Tests.{not-true, not-false}
 use Rattle.c_abi.specs.Abi.{allBytes}
 use Rattle.c_abi.proofs.Claims.{bytes-on, bytes-off}

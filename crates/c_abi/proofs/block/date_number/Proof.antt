@@ -1,5 +1,5 @@
 -- `date_number` meets its contract. Assumes nothing.
-use mathlib.Core.Path.{_≡_, refl, sym, ap, _∙_}
+use mathlib.Core.Path.{refl}
 use Rattle.c_abi.specs.Abi.{dateNumber}
 use borrow.Author.Needs.{needs}
 use Rattle.c_abi.proofs.block.date_number.Statement.{statement}

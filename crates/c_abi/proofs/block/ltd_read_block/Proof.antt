@@ -1,11 +1,10 @@
 -- `ltd_read_block` meets its contract: the number due picks the kind of block. Assumes nothing.
 use mathlib.Core.Path.{_≡_, refl, sym, ap, _∙_}
 use Prim.Native.Nat.{ℕ, _≤_}
-use mathlib.Core.Bool.{true, false, _&&_}
 use mathlib.Core.List.{List, []}
 use native.Mathlib.Omega.{arith}
 use lib.ListN.{length}
-use lib.Dec.{eqb, leb}
+use lib.Dec.{eqb}
 use borrow.Author.Tests.{eq-eqb, ne-eqb, le-leb}
 use Rattle.calendar.specs.Calendar.{pick}
 use Rattle.calendar.proofs.Tests.{by}

@@ -1,10 +1,10 @@
 -- `put_claim` meets its contract: number, dates and the three bytes, one run after another. Assumes nothing.
-use Prim.Native.Nat.{ℕ, _+_}
-use mathlib.Core.List.{List, [], _∷_, _++_}
+use Prim.Native.Nat.{_+_}
+use mathlib.Core.List.{[], _∷_, _++_}
 use lib.Seq.{sets, length-sets}
 use Rattle.c_abi.specs.Abi.{claimDates, claimNumbers}
 use Rattle.c_abi.proofs.Stores.{run}
-use mathlib.Core.Path.{_≡_, refl, sym, ap, _∙_}
+use mathlib.Core.Path.{_≡_, refl, ap, _∙_}
 use native.Mathlib.Omega.{arith}
 use lib.ListN.{length, set, length-set}
 use borrow.Author.Needs.{needs}

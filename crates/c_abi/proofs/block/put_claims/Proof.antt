@@ -1,7 +1,7 @@
 -- `put_claims` meets its contract. The loop's invariant: the claims passed stand in one run. Assumes nothing.
 use mathlib.Core.List.{List}
 use Rattle.claim_months.specs.declared.Claim.{Claim}
-use mathlib.Core.Path.{_≡_, refl, sym, ap, _∙_}
+use mathlib.Core.Path.{_≡_, refl, ap, _∙_}
 use lib.Seq.{sets, length-sets}
 use native.Mathlib.Omega.{arith}
 use lib.ListN.{length, take}

@@ -1,6 +1,5 @@
 -- `read_claims` meets its contract: a refusal leaves the list, and else count and claims are stored. Assumes nothing.
 use mathlib.Core.Path.{_≡_, refl, sym, ap, _∙_}
-use native.Mathlib.Omega.{arith}
 use lib.ListN.{length, set, length-set}
 use Prim.Native.Nat.{ℕ}
 use mathlib.Core.List.{List}
@@ -8,7 +7,6 @@ use lib.Seq.{sets, length-sets}
 use borrow.Author.Tests.{eq-eqb, ne-eqb}
 use Rattle.claim_file.specs.declared.BlockRead.{BlockRead}
 use Rattle.c_abi.specs.Abi.{claimsNumbers, readStored}
-use Rattle.c_abi.proofs.Stores.{run}
 use borrow.Author.Needs.{needs}
 use Rattle.c_abi.proofs.block.read_claims.Statement.{statement}
 use Rattle.c_abi.proofs.block.read_claims.Tie as tie

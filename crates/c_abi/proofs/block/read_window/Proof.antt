@@ -1,9 +1,9 @@
 -- `read_window` meets its contract. Assumes nothing.
 use mathlib.Core.Path.{_≡_, refl, sym, ap, _∙_}
 use native.Mathlib.Omega.{arith}
-use lib.ListN.{length, set, length-set}
+use lib.ListN.{set, length-set}
 use Prim.Native.Nat.{ℕ}
-use mathlib.Core.List.{List, [], _∷_}
+use mathlib.Core.List.{List}
 use Rattle.calendar.specs.Calendar.{pick}
 use Rattle.calendar.proofs.Tests.{by}
 use Rattle.claim_file.specs.declared.Window.{Window}

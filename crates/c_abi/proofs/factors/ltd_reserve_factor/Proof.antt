@@ -4,10 +4,9 @@ use Prim.Native.Nat.{ℕ, _≤_, _<_}
 use mathlib.Core.List.{List, [], _∷_}
 use native.Mathlib.Omega.{arith}
 use lib.Ieee.{Float}
-use lib.ListN.{length, getD, set}
+use lib.ListN.{length, getD}
 use borrow.Author.Tests.{eq-eqb, ne-eqb}
 use Rattle.valuation.specs.declared.Reserve.{Reserve}
-use Rattle.valuation.specs.declared.Reserve.the-variants.{Factor, Refused}
 use Rattle.valuation.specs.Reserve.{reserveIn}
 use Rattle.c_abi.specs.Abi.{reserveNumber, reserveStored, reserveAnswered, reserveAfter}
 use Rattle.c_abi.proofs.Lent.{short, long}

@@ -1,12 +1,12 @@
 -- `ltd_study` meets its contract: the six numbers and the groups behind them are one run of stores. Assumes nothing.
 use borrow.Author.Needs.{needs}
-use mathlib.Core.Path.{_≡_, refl, sym, ap, _∙_}
+use mathlib.Core.Path.{_≡_, refl, ap, _∙_}
 use native.Mathlib.Omega.{arith}
-use lib.ListN.{length, set, length-set}
-use Prim.Native.Nat.{ℕ, _≤_}
+use lib.ListN.{length}
+use Prim.Native.Nat.{_≤_}
 use mathlib.Core.List.{List}
 use lib.IntN.{ℤ}
-use lib.Seq.{sets, length-sets}
+use lib.Seq.{sets}
 use Rattle.claim_file.specs.declared.FileRun.{FileRun}
 use Rattle.c_abi.specs.Abi.{groupsNumbers, headNumbers, runNumbers, answered, stored}
 use Rattle.c_abi.proofs.Lent.{short, long}

@@ -1,14 +1,13 @@
 -- `put_counts` meets its contract: five stores, each number read back from its bits. Assumes nothing.
 use mir.Syntax.{w64}
-use mir.Val.{SFits, toZ, ofZ}
 use mir.Facts.{toZ-ofZ}
-use lib.IntN.{ℤ, pos}
+use lib.IntN.{ℤ}
 use Prim.Native.Nat.{ℕ, suc, _+_}
 use mathlib.Core.List.{List, [], _∷_}
 use lib.Seq.{sets}
-use mathlib.Core.Path.{_≡_, refl, sym, ap, _∙_}
+use mathlib.Core.Path.{_≡_, _∙_}
 use native.Mathlib.Omega.{arith}
-use lib.ListN.{length, set, length-set}
+use lib.ListN.{set, length-set}
 use borrow.Author.Needs.{needs}
 use Rattle.c_abi.proofs.file.put_counts.Statement.{statement}
 use Rattle.c_abi.proofs.file.put_counts.Tie as tie

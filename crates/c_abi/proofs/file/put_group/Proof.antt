@@ -1,7 +1,7 @@
 -- `put_group` meets its contract: the sum, the counts and the two expected sums, one run after another. Assumes nothing.
-use mathlib.Core.Path.{_≡_, refl, sym, ap, _∙_}
+use mathlib.Core.Path.{refl}
 use Prim.Native.Nat.{ℕ, _+_, _*_}
-use mathlib.Core.List.{List, [], _∷_, _++_}
+use mathlib.Core.List.{[], _∷_, _++_}
 use lib.IntN.{ℤ, pos}
 use lib.ListN.{getD}
 use Rattle.c_abi.specs.Abi.{groupNumbers}

@@ -1,7 +1,7 @@
 -- `put_groups` meets its contract. The loop's invariant: the numbers of the groups passed stand in one run. Assumes nothing.
 use mathlib.Core.Path.{_≡_, refl, sym, ap, _∙_}
 use native.Mathlib.Omega.{arith}
-use lib.ListN.{length, set, length-set}
+use lib.ListN.{length}
 use lib.Seq.{sets, length-sets}
 use Prim.Native.Nat.{ℕ, _+_, _*_, _-_, _≤_}
 use Rattle.c_abi.specs.Abi.{groupNumbers, groupsNumbers}

@@ -1,11 +1,9 @@
 -- `put_head` meets its contract: six stores, each number read back from its bits. Assumes nothing.
 use mir.Syntax.{w64}
-use mir.Val.{SFits, toZ, ofZ}
 use mir.Facts.{toZ-ofZ}
-use lib.IntN.{ℤ, pos}
-use mathlib.Core.Path.{_≡_, refl, sym, ap, _∙_}
+use mathlib.Core.Path.{_∙_}
 use native.Mathlib.Omega.{arith}
-use lib.ListN.{length, set, length-set}
+use lib.ListN.{set, length-set}
 use borrow.Author.Needs.{needs}
 use Rattle.c_abi.proofs.file.put_head.Statement.{statement}
 use Rattle.c_abi.proofs.file.put_head.Tie as tie

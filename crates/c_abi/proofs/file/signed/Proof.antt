@@ -1,7 +1,6 @@
 -- `signed` meets its contract. Assumes nothing.
 use native.Mathlib.Omega.{arith}
 use Rattle.c_abi.proofs.Figures.{unsigned}
-use mathlib.Core.Path.{_≡_, refl, sym, ap, _∙_}
 use borrow.Author.Needs.{needs}
 use Rattle.c_abi.proofs.file.signed.Statement.{statement}
 use Rattle.c_abi.proofs.file.signed.Tie as tie

@@ -1,5 +1,4 @@
 -- `claim_in` meets its contract, date by date. Assumes nothing.
-use mathlib.Core.Path.{_≡_, refl, sym, ap, _∙_}
 use Rattle.c_abi.specs.Abi.{claimIn}
 use borrow.Author.Needs.{needs}
 use Rattle.c_abi.proofs.listing.claim_in.Statement.{statement}

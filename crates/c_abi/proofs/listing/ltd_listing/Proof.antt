@@ -1,5 +1,5 @@
 -- `ltd_listing` meets its contract. Assumes nothing.
-use mathlib.Core.Path.{_≡_, refl, sym, ap, _∙_}
+use mathlib.Core.Path.{_≡_, sym, ap, _∙_}
 use Prim.Native.Nat.{ℕ}
 use mathlib.Core.List.{List}
 use lib.IntN.{ℤ}
@@ -7,9 +7,8 @@ use lib.ListN.{length}
 use Rattle.calendar.specs.declared.Date.{Date}
 use Rattle.claim_months.specs.declared.Claim.{Claim}
 use Rattle.claim_months.specs.declared.Listed.{Listed}
-use Rattle.claim_months.specs.declared.Listed.the-variants.{Months, Refused}
 use Rattle.claim_months.specs.Listing.{listingOf, listAfter}
-use Rattle.c_abi.specs.Abi.{refusedNumber, listedNumber}
+use Rattle.c_abi.specs.Abi.{listedNumber}
 use borrow.Author.Needs.{needs}
 use Rattle.c_abi.proofs.listing.ltd_listing.Statement.{statement}
 use Rattle.c_abi.proofs.listing.ltd_listing.Tie as tie
