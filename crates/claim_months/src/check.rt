@@ -8,6 +8,9 @@ use crate::Claim;
 use calendar::Date;
 use calendar::MaybeDay;
 
+// The category of a claim closed near its maximum date.
+const MAX_OUT: u8 = 4;
+
 // Whether a date is missing: year, month and day all zero.
 fn is_missing(date: Date) -> bool
     ensures { λ r. ⌜ r ≡ isMissing date ⌝ }
@@ -153,7 +156,7 @@ pub(crate) fn claim_category(claim: Claim) -> u8
         return claim.code;
     }
     if near(day(claim.termination), day(claim.maximum)) {
-        return 4;
+        return MAX_OUT;
     }
     claim.code
 }
