@@ -10,7 +10,7 @@ use native.Mathlib.Nat.{not-suc-le-zero, le-of-suc-le-suc, eq-or-lt-of-le}
 use native.Mathlib.Numerals.{add-one}
 use lib.ListN.{length, getD, take, length-append}
 use lib.Seq.{take-suc, length-take-le}
-use Rattle.calendar.proofs.Tests.{and-left, and-right}
+use Rattle.basics.proofs.Tests.{and-left, and-right}
 use Rattle.claim_months.specs.declared.Claim.{Claim}
 use Rattle.c_abi.specs.Abi.{claimNumbers, claimsNumbers, bytesAt, allBytes}
 

@@ -6,7 +6,7 @@ use mathlib.Core.Bool.{Bool}
 use mathlib.Core.List.{List}
 use lib.ListN.{length}
 use borrow.Author.Tests.{lt-ltb, le-ltb}
-use Rattle.calendar.specs.Calendar.{pick}
+use Rattle.basics.specs.Pick.{pick}
 use Rattle.c_abi.specs.Abi.{answered, stored}
 
 module _ {A : Type 0} (asked : ℕ) (old : List A) (n : ℕ) (new : List A) where

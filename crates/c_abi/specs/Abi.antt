@@ -7,7 +7,7 @@ use lib.Seq.{sets}
 use lib.Dec.{leb, ltb, eqb}
 use lib.IntN.{ℤ, pos}
 use Rattle.calendar.specs.declared.Date.{Date}
-use Rattle.calendar.specs.Calendar.{pick}
+use Rattle.basics.specs.Pick.{pick}
 use Rattle.claim_months.specs.declared.Claim.{Claim}
 use Rattle.claim_months.specs.declared.Listed.{Listed}
 use Rattle.claim_months.specs.declared.Listed.the-variants as listed
@@ -19,11 +19,14 @@ use lib.Ieee.{Float}
 use Rattle.valuation.specs.declared.Reserve.{Reserve}
 use Rattle.valuation.specs.declared.Reserve.the-variants as reserved
 use Rattle.study.specs.declared.Study.{Study}
+use Rattle.study.specs.declared.Sums.{Sums}
+use Rattle.study.specs.declared.Group.{Group}
+use Rattle.study.specs.Sums.{groupFigures}
 use Rattle.claim_file.specs.declared.FileRun.{FileRun}
 use Rattle.claim_file.specs.declared.Block.{Block}
 use Rattle.claim_file.specs.declared.BlockRead.{BlockRead}
-use Rattle.claim_file.specs.declared.MaybeWindow.{MaybeWindow}
-use Rattle.claim_file.specs.declared.MaybeWindow.the-variants as windowed
+use Rattle.claim_file.specs.declared.MaybeDates.{MaybeDates}
+use Rattle.claim_file.specs.declared.MaybeDates.the-variants as windowed
 use Rattle.claim_file.specs.Answers.{noClaim, writeCheck, bytesAfter}
 
 -- a refusal where the answer is a number: 2^32 + the number refused
@@ -89,23 +92,24 @@ reserveAnswered t old r = pick (eqb (length t) 5) (answered 1 old (reserveNumber
 unfoldable pub reserveAfter : List ℕ → List Float → Reserve → List Float
 reserveAfter t old r = pick (eqb (length t) 5) (stored 1 old (reserveStored old r)) old
 
--- ltd_study: the eight numbers of a group, by its place from 0, and those of the first n groups
-unfoldable pub groupNumbers : Study → ℕ → List ℤ
-groupNumbers s k =
-    getD (s .thirtieths) k (pos 0) ∷ pos (getD (s .closings) (5 * k) 0) ∷ pos (getD (s .closings) (5 * k + 1) 0)
-    ∷ pos (getD (s .closings) (5 * k + 2) 0) ∷ pos (getD (s .closings) (5 * k + 3) 0) ∷ pos (getD (s .closings) (5 * k + 4) 0)
-    ∷ getD (s .recoveries) k (pos 0) ∷ getD (s .deaths) k (pos 0) ∷ []
+-- a study as a list: the eight numbers of a group, those of the first n groups, and those of the whole study, 43
+unfoldable pub countNumbers : List ℕ → List ℤ
+countNumbers [] = []
+countNumbers (x ∷ xs) = pos x ∷ countNumbers xs
 
-unfoldable pub groupsNumbers : Study → ℕ → List ℤ
+unfoldable pub groupNumbers : Group → List ℤ
+groupNumbers g = g .thirtieths ∷ (countNumbers (g .closings) ++ (g .recoveries ∷ g .deaths ∷ []))
+
+unfoldable pub groupsNumbers : Sums → ℕ → List ℤ
 groupsNumbers s zero = []
-groupsNumbers s (suc n) = groupsNumbers s n ++ groupNumbers s n
+groupsNumbers s (suc n) = groupsNumbers s n ++ groupNumbers (groupFigures s (n + 1))
 
-abbrev pub headNumbers : FileRun → List ℤ
-headNumbers r =
-    pos (r .refused) ∷ pos (r .block) ∷ pos (r .place) ∷ pos (r .study .first .0) ∷ pos (r .study .last .0) ∷ pos (r .study .taken) ∷ []
+unfoldable pub studyNumbers : Study → List ℤ
+studyNumbers s = pos (s .window .first .0) ∷ pos (s .window .last .0) ∷ pos (s .taken) ∷ groupsNumbers (s .sums) 5
 
+-- ltd_study: number, block and place of a run, and its study
 unfoldable pub runNumbers : FileRun → List ℤ
-runNumbers r = headNumbers r ++ groupsNumbers (r .study) 5
+runNumbers r = pos (r .refused) ∷ pos (r .block) ∷ pos (r .place) ∷ studyNumbers (r .study)
 
 -- a date as one number
 unfoldable pub dateNumber : Date → ℕ
@@ -123,7 +127,7 @@ claimsNumbers [] = []
 claimsNumbers (c ∷ cs) = claimNumbers c ++ claimsNumbers cs
 
 -- ltd_read_block: block 0, and a claim block
-unfoldable pub windowStored : List ℕ → MaybeWindow → List ℕ
+unfoldable pub windowStored : List ℕ → MaybeDates → List ℕ
 windowStored old (windowed.Known w) = sets old 0 (0 ∷ dateNumber (w .first) ∷ dateNumber (w .last) ∷ [])
 windowStored old (windowed.Refused n) = old
 

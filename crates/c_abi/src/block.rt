@@ -6,14 +6,14 @@ ghost use denote.Ref.{now};
 ghost use lib.Dec.{eqb};
 ghost use lib.ListN.{length};
 ghost use lib.Seq.{sets};
-ghost use Rattle.calendar.specs.Calendar.{pick};
+ghost use Rattle.basics.specs.Pick.{pick};
 ghost use Rattle.claim_file.specs.Answers.{noClaim, blockCheck, windowOf, readOf, windowAfter};
 ghost use Rattle.c_abi.specs.Abi.{dateIn, dateNumber, claimDates, claimNumbers, claimsNumbers, windowStored, readStored, claimAt, bytesAt, allBytes, placed, writeAnswer, writeAfter, answered, stored};
 use crate::listing::claim_in;
 use crate::listing::date_in;
 use calendar::Date;
 use claim_file::Block;
-use claim_file::MaybeWindow;
+use claim_file::MaybeDates;
 use claim_months::Claim;
 
 // A date as one number.
@@ -70,13 +70,13 @@ fn read_window(block: &[u8], out: &mut [u32]) -> u8
     ensures { λ _. ⌜ now (out .exit) ≡ windowStored (now (out .entry)) (windowOf (now (block .entry))) ⌝ }
 {
     match claim_file::blocks::read_window(block) {
-        MaybeWindow::Known(window) => {
+        MaybeDates::Known(window) => {
             out[0] = 0;
             out[1] = date_number(window.first);
             out[2] = date_number(window.last);
             0
         }
-        MaybeWindow::Refused(number) => number,
+        MaybeDates::Refused(number) => number,
     }
 }
 

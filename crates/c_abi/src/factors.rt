@@ -5,7 +5,7 @@ ghost use Rattle.valuation.specs.Rate.{rateIn};
 ghost use Rattle.valuation.specs.Factor.{factorIn};
 ghost use Rattle.valuation.specs.Reserve.{reserveIn};
 ghost use Rattle.c_abi.specs.Abi.{rateNumber, factorNumber, factorStored, reserveAnswered, reserveAfter, answered, stored};
-use claim_months::Duration;
+use basics::Duration;
 use valuation::MaybeFactor;
 use valuation::MaybeRate;
 use valuation::Reserve;

@@ -3,3 +3,4 @@ mod block;
 mod factors;
 mod file;
 mod listing;
+mod study_list;

@@ -6,8 +6,9 @@ use mathlib.Core.Bool.{Bool, true}
 use native.Mathlib.Omega.{arith}
 use borrow.Author.Tests.{eqb-true}
 use lib.Dec.{ltb, eqb}
-use Rattle.calendar.specs.Calendar.{pick, leapYear, monthLength, indexLength, daysBefore}
-use Rattle.calendar.proofs.Tests.{allBelow, all-at}
+use Rattle.basics.specs.Pick.{pick}
+use Rattle.calendar.specs.Calendar.{leapYear, monthLength, indexLength, daysBefore, firstMonth}
+use Rattle.basics.proofs.Tests.{allBelow, all-at}
 
 -- the days of a year before its month r (from 0), q years after 1950
 abbrev pub inYear : ℕ → ℕ → ℕ
@@ -17,7 +18,7 @@ abbrev pub closed : ℕ → ℕ
 closed k = 1461 * (k / 12 + 1) / 4 - 365 + inYear (k / 12) (k % 12)
 
 steps : ℕ → Bool
-steps k = eqb (closed (suc k)) (closed k + indexLength (23400 + k))
+steps k = eqb (closed (suc k)) (closed k + indexLength (firstMonth + k))
 
 all-steps : allBelow steps 1801 ≡ true
 unfolding steps indexLength monthLength leapYear
@@ -27,5 +28,5 @@ pub days-closed : (k : ℕ) → k ≤ 1801 → daysBefore k ≡ closed k
 unfolding daysBefore steps
 days-closed zero h = refl
 days-closed (suc k) h =
-    ap (λ (d : ℕ). d + indexLength (23400 + k)) (days-closed k (omega arith))
+    ap (λ (d : ℕ). d + indexLength (firstMonth + k)) (days-closed k (omega arith))
     ∙ sym (eqb-true _ _ (all-at steps 1801 all-steps k h))

@@ -8,8 +8,9 @@ use native.Mathlib.Omega.{arith}
 use borrow.Author.Tests.{le-leb}
 use lib.Dec.{ltb, leb, eqb}
 use Rattle.calendar.specs.declared.Date.{Date}
-use Rattle.calendar.specs.Calendar.{pick, leapYear, monthLength, isDate, monthIndex, indexLength, daysBefore, monthStart, dayNumber, nextDate, dateOf, monthOf}
-use Rattle.calendar.proofs.Tests.{by, tests}
+use Rattle.basics.specs.Pick.{pick}
+use Rattle.calendar.specs.Calendar.{leapYear, monthLength, isDate, monthIndex, indexLength, daysBefore, monthStart, dayNumber, nextDate, dateOf, monthOf, lastDayNumber, firstMonth}
+use Rattle.basics.proofs.Tests.{by, tests}
 use Rattle.calendar.proofs.Closed.{days-closed}
 
 -- what `isDate` tests, as facts
@@ -69,23 +70,23 @@ unfolding indexLength
 index-length-high i = length-high _ _
 
 -- a month starts the day after the one before it ends
-pub month-step : (i : ℕ) → 23400 ≤ i → monthStart (i + 1) ≡ monthStart i + indexLength i
+pub month-step : (i : ℕ) → firstMonth ≤ i → monthStart (i + 1) ≡ monthStart i + indexLength i
 unfolding monthStart daysBefore
 month-step i h =
-    let e : i + 1 - 23400 ≡ suc (i - 23400) = omega arith in
-    let g : 23400 + (i - 23400) ≡ i = omega arith in
-    ap daysBefore e ∙ ap (λ (j : ℕ). daysBefore (i - 23400) + indexLength j) g
+    let e : i + 1 - firstMonth ≡ suc (i - firstMonth) = omega arith in
+    let g : firstMonth + (i - firstMonth) ≡ i = omega arith in
+    ap daysBefore e ∙ ap (λ (j : ℕ). daysBefore (i - firstMonth) + indexLength j) g
 
-rise : (i n : ℕ) → 23400 ≤ i → monthStart i + 28 * n ≤ monthStart (i + n)
+rise : (i n : ℕ) → firstMonth ≤ i → monthStart i + 28 * n ≤ monthStart (i + n)
 rise i zero h = let e : i + 0 ≡ i = omega arith in omega (arith, ap monthStart e)
 rise i (suc n) h =
     let e : i + suc n ≡ i + n + 1 = omega arith in
     omega (arith, ap monthStart e, rise i n h, month-step (i + n) (omega arith), index-length-low (i + n))
 
-pub months-rise : (i j : ℕ) → 23400 ≤ i → i ≤ j → monthStart i + 28 * (j - i) ≤ monthStart j
+pub months-rise : (i j : ℕ) → firstMonth ≤ i → i ≤ j → monthStart i + 28 * (j - i) ≤ monthStart j
 months-rise i j h l = let e : i + (j - i) ≡ j = omega arith in omega (arith, ap monthStart e, rise i (j - i) h)
 
-pub first-month : monthStart 23400 ≡ 0
+pub first-month : monthStart firstMonth ≡ 0
 unfolding monthStart daysBefore
 first-month = refl
 
@@ -106,7 +107,7 @@ index d = monthIndex (d .year) (d .month)
 
 -- where such a date stands
 record Place (d : Date) : Type 0 where
-  low : 23400 ≤ index d
+  low : firstMonth ≤ index d
   number : dayNumber d ≡ monthStart (index d) + (d .day - 1)
   length : indexLength (index d) ≡ monthLength (d .year) (d .month)
   next : dayNumber d < monthStart (index d + 1)
@@ -115,7 +116,7 @@ record Place (d : Date) : Type 0 where
 place : (d : Date) → Formed d → Place d
 unfolding dayNumber monthIndex indexLength
 place d f =
-    let low : 23400 ≤ index d = omega arith in
+    let low : firstMonth ≤ index d = omega arith in
     let y : index d / 12 ≡ d .year = omega arith in
     let m : index d % 12 + 1 ≡ d .month = omega arith in
     let l : indexLength (index d) ≡ monthLength (d .year) (d .month) = cc in
@@ -169,11 +170,11 @@ placed : (n : ℕ) → Place (dateOf n)
 placed n = place (dateOf n) (reached n .formed)
 
 -- a later start is of a later month
-pub months-order : (i j : ℕ) → 23400 ≤ j → monthStart i < monthStart j → i < j
+pub months-order : (i j : ℕ) → firstMonth ≤ j → monthStart i < monthStart j → i < j
 months-order i j h l = by (leb j i) (λ _. i < j) (λ e. omega (tests, months-rise j i h (omega tests))) (λ e. omega tests)
 
 -- the month of a day
-pub month-of-low : (n : ℕ) → 23400 ≤ monthOf n
+pub month-of-low : (n : ℕ) → firstMonth ≤ monthOf n
 unfolding monthOf
 month-of-low n = placed n .low
 
@@ -185,10 +186,10 @@ pub month-of-end : (n : ℕ) → n < monthStart (monthOf n + 1)
 unfolding monthOf
 month-of-end n = omega (arith, placed n, number-of-date n)
 
-pub month-of-high : (n : ℕ) → n ≤ 54786 → monthOf n < 25200
+pub month-of-high : (n : ℕ) → n ≤ lastDayNumber → monthOf n < 25200
 month-of-high n h = months-order (monthOf n) 25200 (omega arith) (omega (arith, month-of-start n, end-month))
 
-pub month-of-unique : (i n : ℕ) → 23400 ≤ i → monthStart i ≤ n → n < monthStart (i + 1) → monthOf n ≡ i
+pub month-of-unique : (i n : ℕ) → firstMonth ≤ i → monthStart i ≤ n → n < monthStart (i + 1) → monthOf n ≡ i
 month-of-unique i n h l u =
     let a = month-of-low n in
     let s = month-of-start n in
@@ -199,7 +200,7 @@ month-of-unique i n h l u =
 
 -- where a date stands: its month and its place there
 pub record InMonth (d : Date) : Type 0 where
-  pub low : 23400 ≤ monthIndex (d .year) (d .month)
+  pub low : firstMonth ≤ monthIndex (d .year) (d .month)
   pub high : monthIndex (d .year) (d .month) < 25200
   pub number : dayNumber d ≡ monthStart (monthIndex (d .year) (d .month)) + (d .day - 1)
   pub length : indexLength (monthIndex (d .year) (d .month)) ≡ monthLength (d .year) (d .month)
@@ -220,17 +221,17 @@ month-of-date d h =
     month-of-unique (index d) (dayNumber d) (p .low) (omega arith) (p .next)
 
 -- 54,786 is the last day number
-pub day-last : (d : Date) → isDate d ≡ true → dayNumber d ≤ 54786
+pub day-last : (d : Date) → isDate d ≡ true → dayNumber d ≤ lastDayNumber
 day-last d h =
     let p = placed-date d h in
     let i = date-in-month d h in
     omega (arith, end-month, months-rise (index d + 1) 25200 (omega arith) (omega arith))
 
-pub last-date : dayNumber (record { year = 2099; month = 12; day = 31 }) ≡ 54786
+pub last-date : dayNumber (record { year = 2099; month = 12; day = 31 }) ≡ lastDayNumber
 unfolding dayNumber monthIndex monthStart
 last-date = ap (λ (n : ℕ). n + 30) (days-closed 1799 (omega arith))
 
-pub date-of-day-is-date : (n : ℕ) → n ≤ 54786 → isDate (dateOf n) ≡ true
+pub date-of-day-is-date : (n : ℕ) → n ≤ lastDayNumber → isDate (dateOf n) ≡ true
 unfolding monthOf monthIndex
 date-of-day-is-date n h =
     let f = reached n .formed in

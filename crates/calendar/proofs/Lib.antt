@@ -1,4 +1,3 @@
--- The laws that the layers above cite are in `Laws`; `Tests` has laws of tests on numbers.
-pub mod Tests
+-- The laws that the layers above cite are in `Laws`; `Closed` has the closed arithmetic of the code.
 pub mod Laws
 mod Closed

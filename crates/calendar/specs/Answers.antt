@@ -10,15 +10,12 @@ use Rattle.calendar.specs.declared.MaybeDate.{MaybeDate}
 use Rattle.calendar.specs.declared.MaybeDate.the-variants.{Found, NoDate}
 use Rattle.calendar.specs.declared.MaybeMonth.{MaybeMonth}
 use Rattle.calendar.specs.declared.MaybeMonth.the-variants.{Index, NoMonth}
-use Rattle.calendar.specs.Calendar.{pick, isDate, dayNumber, dateOf, monthStart, indexLength, monthOf}
+use Rattle.basics.specs.Pick.{pick}
+use Rattle.calendar.specs.Calendar.{isDate, dayNumber, dateOf, monthStart, indexLength, monthOf, lastDayNumber, firstMonth, endMonth}
 
 -- the number n as a day
 abbrev pub known : ℕ → MaybeDay
 known n = Known (record { 0 = n })
-
--- the last day number: 2099-12-31
-abbrev pub lastDayNumber : ℕ
-lastDayNumber = 54786
 
 -- the day number of a date; a date that isn't one has none
 unfoldable pub dayOf : Date → MaybeDay
@@ -34,7 +31,7 @@ monthAt d = pick (leb (d .0) lastDayNumber) (Index (monthOf (d .0))) NoMonth
 
 -- a month index from January 1950 to January 2100
 unfoldable pub isMonth : ℕ → Bool
-isMonth i = leb 23400 i && leb i 25200
+isMonth i = leb firstMonth i && leb i endMonth
 
 -- the first day of the month with that index
 unfoldable pub firstDay : ℕ → MaybeDay

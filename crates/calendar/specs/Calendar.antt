@@ -2,12 +2,8 @@
 use Prim.Native.Nat.{ℕ, zero, suc, _+_, _*_, _-_, _/_, _%_}
 use mathlib.Core.Bool.{Bool, true, false, not, _&&_, _||_}
 use lib.Dec.{leb, ltb, eqb}
+use Rattle.basics.specs.Pick.{pick}
 use Rattle.calendar.specs.declared.Date.{Date}
-
--- a or b, as the test says
-abbrev pub pick : {A : Type 0} → Bool → A → A → A
-pick true a b = a
-pick false a b = b
 
 -- every fourth year, but not every hundredth, but every four hundredth
 unfoldable pub leapYear : ℕ → Bool
@@ -24,7 +20,18 @@ isDate d =
     leb 1950 (d .year) && leb (d .year) 2099 && leb 1 (d .month) && leb (d .month) 12 && leb 1 (d .day)
     && leb (d .day) (monthLength (d .year) (d .month))
 
--- the month index: year × 12 + month − 1, from 23,400 for January 1950
+-- the last day number: 2099-12-31
+abbrev pub lastDayNumber : ℕ
+lastDayNumber = 54786
+
+-- the month indices of January 1950 and January 2100
+abbrev pub firstMonth : ℕ
+firstMonth = 23400
+
+abbrev pub endMonth : ℕ
+endMonth = 25200
+
+-- the month index: year × 12 + month − 1
 unfoldable pub monthIndex : ℕ → ℕ → ℕ
 monthIndex y m = y * 12 + (m - 1)
 
@@ -35,11 +42,11 @@ indexLength i = monthLength (i / 12) (i % 12 + 1)
 -- the days of the first k months from January 1950 on
 unfoldable pub daysBefore : ℕ → ℕ
 daysBefore zero = 0
-daysBefore (suc k) = daysBefore k + indexLength (23400 + k)
+daysBefore (suc k) = daysBefore k + indexLength (firstMonth + k)
 
 -- the first day of the month with that index
 unfoldable pub monthStart : ℕ → ℕ
-monthStart i = daysBefore (i - 23400)
+monthStart i = daysBefore (i - firstMonth)
 
 -- The day number of a date: 1950-01-01 is 0
 unfoldable pub dayNumber : Date → ℕ

@@ -1,7 +1,7 @@
 // The calendar of document 01: dates, day numbers and months from 1950-01-01 to 2099-12-31.
 ghost use mathlib.Core.Path.{_≡_};
 ghost use Prim.Native.Nat.{_+_, _≤_};
-ghost use Rattle.calendar.specs.Calendar.{leapYear, monthLength, isDate, daysBefore, monthOf};
+ghost use Rattle.calendar.specs.Calendar.{leapYear, monthLength, isDate, daysBefore, monthOf, lastDayNumber, firstMonth};
 ghost use Rattle.calendar.specs.Answers.{dayOf, dateAt, monthAt, firstDay, lastDay};
 
 // A calendar date, in the widths of the claim file. Any bit pattern is a value; `is_date` tells which are dates.
@@ -33,7 +33,12 @@ pub enum MaybeMonth {
 }
 
 // The day number of 2099-12-31.
-const LAST_NUMBER: u32 = 54786;
+pub const LAST_DAY: u32 = 54786;
+
+// The month indices of January 1950 and January 2100.
+pub const FIRST_MONTH: u32 = 23400;
+
+pub const END_MONTH: u32 = 25200;
 
 // The full Gregorian leap rule, on every year.
 fn is_leap_year(year: u16) -> bool
@@ -115,8 +120,8 @@ pub fn day_number(date: Date) -> MaybeDay
 
 // The months from January 1950 to the one that holds a day.
 fn month_of(number: u32) -> u32
-    requires { ⌜ number ≤ 54786 ⌝ }
-    ensures { λ r. ⌜ 23400 + r ≡ monthOf number ⌝ }
+    requires { ⌜ number ≤ lastDayNumber ⌝ }
+    ensures { λ r. ⌜ firstMonth + r ≡ monthOf number ⌝ }
 {
     // 48 months have 1,461 days, and no month starts 3 days before its share of them: this is the month, or the one after it.
     let guess = 48 * (number + 3) / 1461;
@@ -131,7 +136,7 @@ pub fn date_of_day(day: Day) -> MaybeDate
     ensures { λ r. ⌜ r ≡ dateAt day ⌝ }
 {
     let number = day.0;
-    if number > LAST_NUMBER {
+    if number > LAST_DAY {
         return MaybeDate::NoDate;
     }
     let months = month_of(number);
@@ -148,34 +153,34 @@ pub fn month_of_day(day: Day) -> MaybeMonth
     ensures { λ r. ⌜ r ≡ monthAt day ⌝ }
 {
     let number = day.0;
-    if number > LAST_NUMBER {
+    if number > LAST_DAY {
         return MaybeMonth::NoMonth;
     }
-    MaybeMonth::Index(23400 + month_of(number))
+    MaybeMonth::Index(FIRST_MONTH + month_of(number))
 }
 
 // The first day of the month with an index.
 pub fn first_day(month: u32) -> MaybeDay
     ensures { λ r. ⌜ r ≡ firstDay month ⌝ }
 {
-    if month < 23400 {
+    if month < FIRST_MONTH {
         return MaybeDay::NoDay;
     }
-    if month > 25200 {
+    if month > END_MONTH {
         return MaybeDay::NoDay;
     }
-    MaybeDay::Known(Day(days_before(month - 23400)))
+    MaybeDay::Known(Day(days_before(month - FIRST_MONTH)))
 }
 
 // The last day of the month with an index.
 pub fn last_day(month: u32) -> MaybeDay
     ensures { λ r. ⌜ r ≡ lastDay month ⌝ }
 {
-    if month < 23400 {
+    if month < FIRST_MONTH {
         return MaybeDay::NoDay;
     }
-    if month > 25200 {
+    if month > END_MONTH {
         return MaybeDay::NoDay;
     }
-    MaybeDay::Known(Day(days_before(month - 23399) - 1))
+    MaybeDay::Known(Day(days_before(month + 1 - FIRST_MONTH) - 1))
 }

@@ -4,10 +4,12 @@ use calendar::Day;
 use calendar::MaybeDate;
 use calendar::MaybeDay;
 use calendar::MaybeMonth;
-use libc::STDOUT_FILENO;
 use std::num::wrapping_add_u16;
 use std::num::wrapping_add_u32;
 use std::num::wrapping_add_u64;
+use test_support::dates::date;
+use test_support::print::put;
+use test_support::print::put_number;
 
 // What the calendar answers otherwise than the count here, by kind, and the sums of what it answers.
 struct Tally {
@@ -37,14 +39,10 @@ fn every_day() -> Tally {
         month_sum: 0,
         day_sum: 0,
     };
-    let mut date = Date {
-        year: 1950,
-        month: 1,
-        day: 1,
-    };
+    let mut day = date(19500101);
     for number in 0..54787 {
-        t = tallied(t, number, date);
-        date = next(date);
+        t = tallied(t, number, day);
+        day = next(day);
     }
     t
 }
@@ -163,32 +161,21 @@ fn index_of(month: MaybeMonth) -> u32 {
     }
 }
 
-fn date_of(date: MaybeDate) -> Date {
-    match date {
+fn date_of(found: MaybeDate) -> Date {
+    match found {
         MaybeDate::Found(d) => d,
-        MaybeDate::NoDate => Date {
-            year: 0,
-            month: 0,
-            day: 0,
-        },
+        MaybeDate::NoDate => date(0),
     }
 }
 
 // The dates and numbers at which an answer begins or ends, and those with none.
 fn edges() {
-    show_date(1950, 1, 1);
-    show_date(2000, 2, 29);
-    show_date(2099, 12, 31);
-    show_date(1950, 0, 1);
-    show_date(1950, 13, 1);
-    show_date(1950, 1, 0);
-    show_date(1950, 4, 31);
-    show_date(2001, 2, 29);
-    show_date(1900, 2, 29);
-    show_date(0, 1, 1);
-    show_date(65535, 1, 1);
-    show_date(1949, 12, 31);
-    show_date(2100, 1, 1);
+    let right = [19500101, 20000229, 20991231];
+    show_dates(&right);
+    let no_month_or_day = [19500001, 19501301, 19500100, 19500431, 20010229, 19000229];
+    show_dates(&no_month_or_day);
+    let no_year = [101, 655350101, 19491231, 21000101];
+    show_dates(&no_year);
     show_number(0);
     show_number(54786);
     show_number(54787);
@@ -199,8 +186,16 @@ fn edges() {
     show_month(25201);
 }
 
-fn show_date(year: u16, month: u8, day: u8) {
-    let date = Date { year, month, day };
+// Dates written as digits, a line each.
+fn show_dates(list: &[u32]) {
+    let mut i = 0;
+    while i < list.len() {
+        show_date(date(list[i]));
+        i += 1;
+    }
+}
+
+fn show_date(date: Date) {
     put_date(date);
     if calendar::is_date(date) {
         put(b" is a date, ");
@@ -263,12 +258,4 @@ fn line(label: &[u8], number: u64) {
     put(b": ");
     put_number(number);
     put(b"\n");
-}
-
-fn put(text: &[u8]) {
-    io::write_all(STDOUT_FILENO, text);
-}
-
-fn put_number(number: u64) {
-    io::print_decimal(STDOUT_FILENO, number);
 }

@@ -1,18 +1,18 @@
 -- A changed byte changes the check: 65,521 has no divisor from 2 to 510, so no byte's difference times its weight is 0 modulo 65,521.
 -- Assumes nothing.
 use Prim.Native.Nat.{ℕ, zero, suc, _+_, _-_, _*_, _%_, _≤_, _<_}
-use mathlib.Core.Path.{_≡_, refl, sym, ap, subst, _∙_}
-use mathlib.Core.Bool.{Bool, true, false, not, _&&_, and-false, and-eq-true-iff}
+use mathlib.Core.Path.{_≡_, refl, sym, ap, _∙_}
+use mathlib.Core.Bool.{Bool, true, false, not}
 use mathlib.Core.List.{List}
 use native.Mathlib.Omega.{arith}
 use native.Mathlib.Nat.{not-suc-le-zero, mul-le-mul, mul-mod-right, mul-add}
-use lib.ListN.{length, getD, set}
+use lib.ListN.{length, set}
 use lib.Seq.{getD-set-same, getD-set-other}
-use lib.Dec.{eqb, leb, ltb}
-use borrow.Author.Tests.{eqb-true, eqb-false, ne-eqb, eq-eqb, not-true}
-use Rattle.calendar.proofs.Tests.{by, tests, allBelow, all-at}
-use Rattle.claim_file.specs.Block.{byteAt, twoAt, weightedSum, checkOf, framed}
-use Rattle.claim_file.proofs.Tests.{framed-is}
+use lib.Dec.{eqb, ltb}
+use borrow.Author.Tests.{eqb-true, eqb-false, ne-eqb, not-true}
+use Rattle.basics.proofs.Tests.{by, tests, allBelow, all-at}
+use Rattle.claim_file.specs.Bytes.{byteAt, twoAt}
+use Rattle.claim_file.specs.Block.{weightedSum, checkOf}
 
 -- the weighted sum goes by the bytes that it sums
 pub weighted-cong : (a b : List ℕ) (n : ℕ) → ((k : ℕ) → k < n → byteAt a k ≡ byteAt b k) → weightedSum a n ≡ weightedSum b n

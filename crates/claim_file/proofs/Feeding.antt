@@ -1,17 +1,16 @@
 -- A run may be fed a file in pieces: after a whole number of blocks it goes on as if all bytes had come at once.
 -- Assumes nothing.
-use Prim.Native.Nat.{ℕ, zero, suc, _+_, _-_, _*_, _/_, _%_, _≤_}
+use Prim.Native.Nat.{ℕ, zero, suc, _+_, _-_, _*_, _/_, _≤_}
 use mathlib.Core.Path.{_≡_, refl, sym, ap, _∙_}
-use mathlib.Core.Bool.{Bool}
 use mathlib.Core.List.{List, [], _∷_, _++_}
 use native.Mathlib.Omega.{arith}
 use lib.ListN.{length, take, drop, length-append, length-drop}
 use lib.Seq.{take-append-le, drop-append-le}
 use lib.Dec.{eqb}
 use borrow.Author.Tests.{eqb-true, eqb-false}
-use Rattle.calendar.proofs.Tests.{by}
+use Rattle.basics.proofs.Tests.{by}
 use Rattle.claim_file.specs.declared.FileRun.{FileRun}
-use Rattle.claim_file.specs.Run.{blockFed, fed}
+use Rattle.claim_file.specs.Run.{blockFed, fed, FedInPieces}
 use Rattle.claim_file.proofs.Runs.{fed-refused, fed-none, fed-block}
 
 none-first : (r : FileRun) (rates a b : List ℕ) → length a ≡ 0 → fed (fed r rates a) rates b ≡ fed r rates (a ++ b)
@@ -37,5 +36,5 @@ pieces (suc n) r rates a b e =
     let h = eqb-false (r .refused) 0 t in
     ap (λ (x : FileRun). fed x rates b) (fed-refused r rates a h) ∙ fed-refused r rates b h ∙ sym (fed-refused r rates (a ++ b) h))
 
-pub fed-in-pieces : (r : FileRun) (rates a b : List ℕ) → length a % 512 ≡ 0 → fed (fed r rates a) rates b ≡ fed r rates (a ++ b)
+pub fed-in-pieces : FedInPieces
 fed-in-pieces r rates a b e = pieces (length a / 512) r rates a b (omega arith)

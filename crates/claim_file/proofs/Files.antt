@@ -1,38 +1,41 @@
 -- Demand 3 for files, the proof. Behind block 0 a run's course doesn't depend on its window: it is that of a plain run, which keeps the list of
 -- the claims taken in place of their study.
 -- Assumes nothing.
-use Prim.Native.Nat.{ℕ, zero, suc, _+_, _*_, _/_, _%_, _≤_, _<_}
-use mathlib.Core.Path.{_≡_, refl, sym, ap, ap₂, _∙_, subst⁻¹}
-use mathlib.Core.Bool.{Bool, true, false, _&&_, and-false, and-eq-true-iff}
+use Prim.Native.Nat.{ℕ, zero, suc, _+_, _/_, _%_, _≤_}
+use mathlib.Core.Path.{_≡_, refl, sym, ap, _∙_}
+use mathlib.Core.Bool.{true, _&&_, and-false, and-eq-true-iff}
 use mathlib.Core.List.{List, [], _∷_, _++_}
 use lib.ListN.{length, take, drop}
 use lib.Seq.{take-all}
-use lib.Dec.{leb, ltb, eqb}
+use lib.Dec.{ltb, eqb}
 use borrow.Author.Tests.{eqb-true, eqb-false, ne-eqb}
+use Rattle.basics.specs.Pick.{pick}
+use Rattle.basics.proofs.Tests.{tests, by}
 use Rattle.calendar.specs.declared.Date.{Date}
-use Rattle.calendar.specs.Calendar.{pick, isDate, dayNumber}
+use Rattle.calendar.specs.Calendar.{isDate}
 use Rattle.calendar.proofs.Laws.{date-bounds, length-high}
-use Rattle.calendar.proofs.Tests.{tests, by, and-left, and-right}
 use Rattle.claim_months.specs.declared.Claim.{Claim}
-use Rattle.claim_months.specs.Exposure.{windowSound}
-use Rattle.claim_months.specs.Listing.{datesWindow}
-use Rattle.claim_months.specs.Windows.{Window as Days, Parts, EveryPart}
-use Rattle.claim_months.proofs.Parts.{every-map}
-use Rattle.study.specs.declared.Study.{Study}
+use Rattle.claim_months.specs.declared.Window.{Window}
+use Rattle.claim_months.specs.Windows.{windowSound, datesWindow}
+use Rattle.claim_months.proofs.DateWindows.{dates-sound, both-dates}
+use Rattle.claim_months.proofs.Parts.{parts-map, parts-every, every-map}
 use Rattle.study.specs.declared.Answer.{Answer}
-use Rattle.study.specs.Study.{studyOf, fresh, opened, added}
-use Rattle.study.specs.Demand3.{SumsTotal}
-use Rattle.study.proofs.SumOver.{All}
-use Rattle.study.proofs.Capacity.{Accepted}
+use Rattle.study.specs.Sums.{none, plus}
+use Rattle.study.specs.Study.{shareOf, sumOver, studyOf, fresh, opened}
+use Rattle.study.proofs.Algebra.{Shaped}
+use Rattle.study.proofs.SumOver.{All, Commutes, AnyCount, counts, sums, good-sum, length-sum}
+use Rattle.study.proofs.Capacity.{Accepted, share-shaped}
 use Rattle.study.proofs.Built.{numberAfter, added-after, zero-accepted, fresh-built}
 use Rattle.study.proofs.Totals.{studies-total, same-totals}
-use Rattle.study.proofs.Demand3.{dates-sound, opens-dates}
-use Rattle.claim_file.specs.declared.Window.{Window}
+use Rattle.study.proofs.Demand3.{opens-window}
+use Rattle.claim_file.specs.declared.WindowDates.{WindowDates}
 use Rattle.claim_file.specs.declared.FileRun.{FileRun}
-use Rattle.claim_file.specs.Block.{dateFrom, blockClaim, claimCount, framed, windowBlock, blockSound, windowBytes}
-use Rattle.claim_file.specs.Run.{started, goesOn, stops, claimsFrom, windowOpened, blockFed, blocksFed, partFed, fed, ended, fileRun}
-use Rattle.claim_file.specs.Files.{runOf, FileParts, SameEnd, FilesAddUp, FilesDemand3}
-use Rattle.claim_file.proofs.RoundTrip.{DateFits, window-sound, window-first, window-last}
+use Rattle.claim_file.specs.Block.{blockClaim, claimCount, framed, windowBlock, blockSound, windowBytes}
+use Rattle.claim_file.specs.Run.{started, begun, goesOn, stops, claimsFrom, blockFed, blocksFed, partFed, fed, ended, fileRun}
+use Rattle.claim_file.specs.Files.{runOf, claimsOfBlock, claimsOfBlocks, fileClaims, Accepts, windowDays, SameEnd, HasStudy, FilesDemand3}
+use Rattle.claim_file.specs.RoundTrip.{DateFits}
+use Rattle.claim_file.proofs.BlockTrips.{window-sound, window-first, window-last}
+use Rattle.claim_file.proofs.Runs.{sound}
 use Rattle.claim_file.proofs.Feeding.{fed-in-pieces}
 
 -- a run without its window
@@ -75,22 +78,22 @@ module _ (rates : List ℕ) where
   -- its claims are accepted ones, and block 0 is behind it
   record Good (p : Plain) : Type 0 where
     accepted : All (Accepted rates) (p .claims)
-    begun : 1 ≤ p .due
+    behind : 1 ≤ p .due
 
   claims-good : (p : Plain) (cs : List Claim) (bytes : List ℕ) (n k : ℕ) → 1 ≤ p .due → All (Accepted rates) cs → Good (plainClaims p cs bytes k n)
   unfolding plainClaims
-  claims-good p cs bytes zero k d a = record { accepted = a; begun = omega tests }
+  claims-good p cs bytes zero k d a = record { accepted = a; behind = omega tests }
   claims-good p cs bytes (suc n) k d a =
       let c = blockClaim bytes k in
       by (eqb (numberAfter rates cs c) 0) (λ y. Good (pick y (plainClaims p (c ∷ cs) bytes (suc k) n) (stop p cs (numberAfter rates cs c) (suc k))))
       (λ q. claims-good p (c ∷ cs) bytes n (suc k) d (zero-accepted rates cs c (eqb-true (numberAfter rates cs c) 0 q), a))
-      (λ q. record { accepted = a; begun = d })
+      (λ q. record { accepted = a; behind = d })
 
   block-good : (p : Plain) (bytes : List ℕ) → Good p → Good (plainBlock p bytes)
   unfolding plainBlock
   block-good p bytes g =
       by (blockSound (p .due) bytes) (λ y. Good (pick y (plainClaims p (p .claims) bytes 0 (claimCount bytes)) (stop p (p .claims) 11 0)))
-      (λ q. claims-good p (p .claims) bytes (claimCount bytes) 0 (g .begun) (g .accepted)) (λ q. record { accepted = g .accepted; begun = g .begun })
+      (λ q. claims-good p (p .claims) bytes (claimCount bytes) 0 (g .behind) (g .accepted)) (λ q. record { accepted = g .accepted; behind = g .behind })
 
   blocks-good : (n : ℕ) (p : Plain) (bytes : List ℕ) → Good p → Good (plainBlocks p bytes n)
   unfolding plainBlocks
@@ -105,15 +108,89 @@ module _ (rates : List ℕ) where
       let q = plainBlocks p bytes (length bytes / 512) in
       let h = blocks-good (length bytes / 512) p bytes g in
       by (eqb (q .refused) 0 && ltb 0 (length bytes % 512)) (λ y. Good (pick y (stop q (q .claims) 11 0) q))
-      (λ u. record { accepted = h .accepted; begun = h .begun }) (λ u. h)
+      (λ u. record { accepted = h .accepted; behind = h .behind }) (λ u. h)
+
+  -- the claims that a plain run which isn't refused has taken: any sum over them is that over the claims of the bytes and of those before
+  module _ {A : Type 0} (add : A → A → A) (zero-sum : A) (GoodSum : A → Type 0) (laws : Commutes add zero-sum GoodSum) (f : Claim → A) (good : (c : Claim) → GoodSum (f c)) where
+    abbrev sumOf : List Claim → A
+    sumOf = sumOver add zero-sum f
+
+    sum-append : (xs ys : List Claim) → sumOf (xs ++ ys) ≡ add (sumOf xs) (sumOf ys)
+    unfolding sumOver
+    sum-append [] ys = sym (laws .left (sumOf ys) (good-sum add zero-sum GoodSum laws rates f good ys))
+    sum-append (x ∷ xs) ys = ap (add (f x)) (sum-append xs ys) ∙ sym (laws .assoc (f x) (sumOf xs) (sumOf ys))
+
+    claims-sum : (p : Plain) (bytes : List ℕ) (n k : ℕ) (cs : List Claim) → plainClaims p cs bytes k n .refused ≡ 0
+        → sumOf (plainClaims p cs bytes k n .claims) ≡ add (sumOf (claimsOfBlock bytes k n)) (sumOf cs)
+    unfolding plainClaims claimsOfBlock sumOver
+    claims-sum p bytes zero k cs h = sym (laws .left (sumOf cs) (good-sum add zero-sum GoodSum laws rates f good cs))
+    claims-sum p bytes (suc n) k cs h₀ =
+        let c = blockClaim bytes k in
+        let m = numberAfter rates cs c in
+        by (eqb m 0)
+        (λ y. pick y (plainClaims p (c ∷ cs) bytes (suc k) n) (stop p cs m (suc k)) .refused ≡ 0
+        → sumOf (pick y (plainClaims p (c ∷ cs) bytes (suc k) n) (stop p cs m (suc k)) .claims) ≡ add (add (f c) (sumOf (claimsOfBlock bytes (suc k) n))) (sumOf cs))
+        (λ q h.
+        claims-sum p bytes n (suc k) (c ∷ cs) h ∙ sym (laws .assoc (sumOf (claimsOfBlock bytes (suc k) n)) (f c) (sumOf cs))
+        ∙ ap (λ (x : A). add x (sumOf cs)) (laws .comm (sumOf (claimsOfBlock bytes (suc k) n)) (f c)))
+        (λ q h. absurd (eqb-false m 0 q h)) h₀
+
+    block-sum : (p : Plain) (bytes : List ℕ) → plainBlock p bytes .refused ≡ 0
+        → sumOf (plainBlock p bytes .claims) ≡ add (sumOf (claimsOfBlock bytes 0 (claimCount bytes))) (sumOf (p .claims))
+    unfolding plainBlock
+    block-sum p bytes =
+        by (blockSound (p .due) bytes)
+        (λ y. pick y (plainClaims p (p .claims) bytes 0 (claimCount bytes)) (stop p (p .claims) 11 0) .refused ≡ 0
+        → sumOf (pick y (plainClaims p (p .claims) bytes 0 (claimCount bytes)) (stop p (p .claims) 11 0) .claims)
+        ≡ add (sumOf (claimsOfBlock bytes 0 (claimCount bytes))) (sumOf (p .claims)))
+        (λ q h. claims-sum p bytes (claimCount bytes) 0 (p .claims) h) (λ q h. absurd (omega tests))
+
+    -- a run refused before some blocks is refused after them
+    still-refused : (n : ℕ) (p : Plain) (bytes : List ℕ) → plainBlocks p bytes n .refused ≡ 0 → p .refused ≡ 0
+    unfolding plainBlocks
+    still-refused zero p bytes h = h
+    still-refused (suc n) p bytes h₀ =
+        by (eqb (p .refused) 0) (λ y. pick y (plainBlocks (plainBlock p (take 512 bytes)) (drop 512 bytes) n) p .refused ≡ 0 → p .refused ≡ 0)
+        (λ q h. eqb-true (p .refused) 0 q) (λ q h. h) h₀
+
+    blocks-sum : (n : ℕ) (p : Plain) (bytes : List ℕ) → plainBlocks p bytes n .refused ≡ 0
+        → sumOf (plainBlocks p bytes n .claims) ≡ add (sumOf (claimsOfBlocks bytes n)) (sumOf (p .claims))
+    unfolding plainBlocks claimsOfBlocks sumOver
+    blocks-sum zero p bytes h = sym (laws .left (sumOf (p .claims)) (good-sum add zero-sum GoodSum laws rates f good (p .claims)))
+    blocks-sum (suc n) p bytes h₀ =
+        let q = plainBlock p (take 512 bytes) in
+        let here = claimsOfBlock (take 512 bytes) 0 (claimCount (take 512 bytes)) in
+        let later = claimsOfBlocks (drop 512 bytes) n in
+        by (eqb (p .refused) 0)
+        (λ y. pick y (plainBlocks q (drop 512 bytes) n) p .refused ≡ 0 → sumOf (pick y (plainBlocks q (drop 512 bytes) n) p .claims) ≡ add (sumOf (here ++ later)) (sumOf (p .claims)))
+        (λ u h.
+        blocks-sum n q (drop 512 bytes) h
+        ∙ ap (add (sumOf later)) (block-sum p (take 512 bytes) (still-refused n q (drop 512 bytes) h))
+        ∙ sym (laws .assoc (sumOf later) (sumOf here) (sumOf (p .claims)))
+        ∙ ap (λ (x : A). add x (sumOf (p .claims))) (laws .comm (sumOf later) (sumOf here) ∙ sym (sum-append here later)))
+        (λ u h. absurd (eqb-false (p .refused) 0 u h)) h₀
+
+    -- the claims of a whole file
+    fed-sum : (p : Plain) (bytes : List ℕ) → p .claims ≡ [] → plainFed p bytes .refused ≡ 0 → sumOf (plainFed p bytes .claims) ≡ sumOf (fileClaims bytes)
+    unfolding plainFed fileClaims sumOver
+    fed-sum p bytes e =
+        let q = plainBlocks p bytes (length bytes / 512) in
+        by (eqb (q .refused) 0 && ltb 0 (length bytes % 512))
+        (λ y. pick y (stop q (q .claims) 11 0) q .refused ≡ 0 → sumOf (pick y (stop q (q .claims) 11 0) q .claims) ≡ sumOf (claimsOfBlocks bytes (length bytes / 512)))
+        (λ u h. absurd (omega tests))
+        (λ u h.
+        blocks-sum (length bytes / 512) p bytes h
+        ∙ ap (λ (cs : List Claim). add (sumOf (claimsOfBlocks bytes (length bytes / 512))) (sumOf cs)) e
+        ∙ laws .comm (sumOf (claimsOfBlocks bytes (length bytes / 512))) zero-sum
+        ∙ laws .left _ (good-sum add zero-sum GoodSum laws rates f good (claimsOfBlocks bytes (length bytes / 512))))
 
   -- the run of a window with a plain run's course
-  module _ (b e : ℕ) (sound : windowSound b e ≡ true) where
+  module _ (w : Window) (ok : windowSound (w .first .0) (w .last .0) ≡ true) where
     withStudy : Plain → FileRun
-    withStudy p = record { study = studyOf b e rates (p .claims); due = p .due; refused = p .refused; block = p .block; place = p .place }
+    withStudy p = record { study = studyOf w rates (p .claims); due = p .due; refused = p .refused; block = p .block; place = p .place }
 
     claims-plain : (p : Plain) (bytes : List ℕ) (n k : ℕ) (cs : List Claim) → All (Accepted rates) cs
-        → claimsFrom (withStudy p) (studyOf b e rates cs) rates bytes k n ≡ withStudy (plainClaims p cs bytes k n)
+        → claimsFrom (withStudy p) (studyOf w rates cs) rates bytes k n ≡ withStudy (plainClaims p cs bytes k n)
     unfolding claimsFrom plainClaims goesOn stops withStudy
     claims-plain p bytes zero k cs a = refl
     claims-plain p bytes (suc n) k cs a =
@@ -121,18 +198,22 @@ module _ (rates : List ℕ) where
         let r = withStudy p in
         let m = numberAfter rates cs c in
         ap (λ (x : Answer). pick (eqb (x .refused) 0) (claimsFrom r (x .study) rates bytes (suc k) n) (stops r (x .study) (x .refused) (suc k)))
-        (added-after b e rates sound cs c a)
+        (added-after w rates ok cs c a)
         ∙ by (eqb m 0)
-        (λ y. pick y (claimsFrom r (studyOf b e rates (pick y (c ∷ cs) cs)) rates bytes (suc k) n) (stops r (studyOf b e rates (pick y (c ∷ cs) cs)) m (suc k))
+        (λ y. pick y (claimsFrom r (studyOf w rates (pick y (c ∷ cs) cs)) rates bytes (suc k) n) (stops r (studyOf w rates (pick y (c ∷ cs) cs)) m (suc k))
         ≡ withStudy (pick y (plainClaims p (c ∷ cs) bytes (suc k) n) (stop p cs m (suc k))))
         (λ q. claims-plain p bytes n (suc k) (c ∷ cs) (zero-accepted rates cs c (eqb-true m 0 q), a)) (λ q. refl)
 
     block-plain : (p : Plain) (bytes : List ℕ) → Good p → blockFed (withStudy p) rates bytes ≡ withStudy (plainBlock p bytes)
-    unfolding blockFed plainBlock stops withStudy
+    unfolding blockFed begun plainBlock stops withStudy
     block-plain p bytes g =
-        rw (ne-eqb (p .due) 0 (λ q. omega (tests, g .begun)))
+        rw (ne-eqb (p .due) 0 (λ q. omega (tests, g .behind)))
         (by (blockSound (p .due) bytes)
-        (λ y. pick y (claimsFrom (withStudy p) (studyOf b e rates (p .claims)) rates bytes 0 (claimCount bytes)) (stops (withStudy p) (studyOf b e rates (p .claims)) 11 0)
+        (λ y.
+        pick (eqb (pick {A = Answer} y (record { refused = 0; study = studyOf w rates (p .claims) }) (record { refused = 11; study = studyOf w rates (p .claims) }) .refused) 0)
+        (claimsFrom (withStudy p) (pick {A = Answer} y (record { refused = 0; study = studyOf w rates (p .claims) }) (record { refused = 11; study = studyOf w rates (p .claims) }) .study) rates bytes 0 (claimCount bytes))
+        (stops (withStudy p) (pick {A = Answer} y (record { refused = 0; study = studyOf w rates (p .claims) }) (record { refused = 11; study = studyOf w rates (p .claims) }) .study)
+        (pick {A = Answer} y (record { refused = 0; study = studyOf w rates (p .claims) }) (record { refused = 11; study = studyOf w rates (p .claims) }) .refused) 0)
         ≡ withStudy (pick y (plainClaims p (p .claims) bytes 0 (claimCount bytes)) (stop p (p .claims) 11 0)))
         (λ q. claims-plain p bytes (claimCount bytes) 0 (p .claims) (g .accepted)) (λ q. refl))
 
@@ -154,11 +235,11 @@ module _ (rates : List ℕ) where
         let q = plainBlocks p bytes (length bytes / 512) in
         let t = eqb (q .refused) 0 && ltb 0 (length bytes % 512) in
         ap (λ (r : FileRun). partFed r (length bytes % 512)) (blocks-plain (length bytes / 512) p bytes g)
-        ∙ by t (λ y. pick y (stops (withStudy q) (studyOf b e rates (q .claims)) 11 0) (withStudy q) ≡ withStudy (pick y (stop q (q .claims) 11 0) q)) (λ u. refl) (λ u. refl)
+        ∙ by t (λ y. pick y (stops (withStudy q) (studyOf w rates (q .claims)) 11 0) (withStudy q) ≡ withStudy (pick y (stop q (q .claims) 11 0) q)) (λ u. refl) (λ u. refl)
 
     ended-plain : (p : Plain) → Good p → ended (withStudy p) ≡ withStudy p
     unfolding ended withStudy
-    ended-plain p g = rw (ne-eqb (p .due) 0 (λ q. omega (tests, g .begun)), and-false)
+    ended-plain p g = rw (ne-eqb (p .due) 0 (λ q. omega (tests, g .behind)), and-false)
 
 -- a date of the calendar fits the file's widths
 date-fits : (d : Date) → isDate d ≡ true → DateFits d
@@ -177,77 +258,90 @@ window-length b e =
 abbrev first : Plain
 first = plain [] 1 0 0 0
 
-module _ (rates : List ℕ) (w : Window) (ok : opened (w .first) (w .last) .refused ≡ 0) where
-  dates : datesWindow (w .first) (w .last) ≡ true
-  dates = opens-dates (w .first) (w .last) ok
+module _ (rates : List ℕ) (w : WindowDates) (ok : Accepts w) where
+  opens : (datesWindow (w .first) (w .last) ≡ true) × (opened (w .first) (w .last) .study ≡ fresh (windowDays w))
+  opens = opens-window (w .first) (w .last) ok
 
-  first-date : isDate (w .first) ≡ true
-  unfolding datesWindow
-  first-date = and-left (isDate (w .first)) (isDate (w .last)) (and-left (isDate (w .first) && isDate (w .last)) (leb (dayNumber (w .first)) (dayNumber (w .last))) dates)
+  sound-days : windowSound (windowDays w .first .0) (windowDays w .last .0) ≡ true
+  sound-days = dates-sound (w .first) (w .last) (opens .0)
 
-  last-date : isDate (w .last) ≡ true
-  unfolding datesWindow
-  last-date = and-right (isDate (w .first)) (isDate (w .last)) (and-left (isDate (w .first) && isDate (w .last)) (leb (dayNumber (w .first)) (dayNumber (w .last))) dates)
-
-  sound : windowSound (dayNumber (w .first)) (dayNumber (w .last)) ≡ true
-  sound = dates-sound (w .first) (w .last) dates
-
-  window-fed : fed started rates (windowBytes (w .first) (w .last)) ≡ withStudy rates (dayNumber (w .first)) (dayNumber (w .last)) sound first
-  unfolding fed blocksFed blockFed blockSound windowOpened partFed goesOn started opened withStudy
-  window-fed =
-      let n = window-length (w .first) (w .last) in
+  window-block : blockFed started rates (windowBytes (w .first) (w .last)) ≡ withStudy rates (windowDays w) sound-days first
+  unfolding blockFed begun blockSound claimsFrom goesOn started withStudy
+  window-block =
+      let d = both-dates (w .first) (w .last) (opens .0) in
+      let n : claimCount (windowBytes (w .first) (w .last)) ≡ 0 = sound 0 (windowBytes (w .first) (w .last)) (window-sound (w .first) (w .last)) .none-so refl in
       rw (
-        n,
-        take-all 512 (windowBytes (w .first) (w .last)) (omega tests),
         window-sound (w .first) (w .last),
-        window-first (w .first) (w .last) (date-fits (w .first) first-date),
-        window-last (w .first) (w .last) (date-fits (w .last) last-date),
-        dates,
-        fresh-built (dayNumber (w .first)) (dayNumber (w .last)) rates,
+        window-first (w .first) (w .last) (date-fits (w .first) (d .0)),
+        window-last (w .first) (w .last) (date-fits (w .last) (d .1)),
+        ok,
+        n,
+        opens .1,
+        fresh-built (windowDays w) rates,
       )
 
-  run-plain : (rest : List ℕ) → runOf rates rest w ≡ withStudy rates (dayNumber (w .first)) (dayNumber (w .last)) sound (plainFed rates first rest)
+  window-fed : fed started rates (windowBytes (w .first) (w .last)) ≡ withStudy rates (windowDays w) sound-days first
+  unfolding fed blocksFed partFed started withStudy
+  window-fed =
+      let n = window-length (w .first) (w .last) in
+      rw (n, take-all 512 (windowBytes (w .first) (w .last)) (omega tests), window-block)
+
+  run-plain : (rest : List ℕ) → runOf rates rest w ≡ withStudy rates (windowDays w) sound-days (plainFed rates first rest)
   unfolding runOf fileRun
   run-plain rest =
-      let g : Good rates first = record { accepted = tt; begun = omega tests } in
-      let b = dayNumber (w .first) in
-      let e = dayNumber (w .last) in
+      let g : Good rates first = record { accepted = tt; behind = omega tests } in
       ap ended
       (sym (fed-in-pieces started rates (windowBytes (w .first) (w .last)) rest (ap (λ (x : ℕ). x % 512) (window-length (w .first) (w .last))))
-      ∙ ap (λ (r : FileRun). fed r rates rest) window-fed ∙ fed-plain rates b e sound first rest g)
-      ∙ ended-plain rates b e sound (plainFed rates first rest) (fed-good rates first rest g)
+      ∙ ap (λ (r : FileRun). fed r rates rest) window-fed ∙ fed-plain rates (windowDays w) sound-days first rest g)
+      ∙ ended-plain rates (windowDays w) sound-days (plainFed rates first rest) (fed-good rates first rest g)
 
--- a file's window as day numbers
-abbrev days : Window → Days
-days w = record { first = dayNumber (w .first); last = dayNumber (w .last) }
+  -- not refused, its study is that of the file's claims
+  has-study : (rest : List ℕ) → HasStudy rates rest w
+  unfolding withStudy studyOf
+  has-study rest z =
+      let p = plainFed rates first rest in
+      let e = run-plain rest in
+      let h : p .refused ≡ 0 = sym (ap (λ (r : FileRun). r .refused) e) ∙ z in
+      ap (λ (r : FileRun). r .study) e
+      ∙ (λ i.
+      record {
+        window = windowDays w;
+        taken = (sym (length-sum (p .claims)) ∙ fed-sum rates _+_ 0 AnyCount counts (λ c. 1) (λ c. tt) first rest refl h ∙ length-sum (fileClaims rest)) i;
+        sums = fed-sum rates plus none Shaped sums (shareOf (windowDays w) rates) (share-shaped (windowDays w) rates) first rest refl h i;
+      })
 
-file-parts : (b e : ℕ) (w : Window) (ws : List Window) → FileParts b e w ws → Parts days b e w ws
-file-parts b e w [] h = (dates-sound (w .first) (w .last) (opens-dates (w .first) (w .last) (h .0)), h .1, h .2)
-file-parts b e w (v ∷ ws) h =
-    (dates-sound (w .first) (w .last) (opens-dates (w .first) (w .last) (h .0)), h .1, file-parts (dayNumber (w .last) + 1) e v ws (h .2))
+-- what runs of two windows share: all that the plain run has
+run-shares : {A : Type 0} (rates rest : List ℕ) (v w : WindowDates) (k : Accepts v) (ok : Accepts w) (f : FileRun → A)
+    → f (withStudy rates (windowDays v) (sound-days rates v k) (plainFed rates first rest)) ≡ f (withStudy rates (windowDays w) (sound-days rates w ok) (plainFed rates first rest))
+    → f (runOf rates rest v) ≡ f (runOf rates rest w)
+run-shares rates rest v w k ok f q = ap f (run-plain rates v k rest) ∙ q ∙ sym (ap f (run-plain rates w ok rest))
 
-every-opens : (b e : ℕ) (w : Window) (ws : List Window) → FileParts b e w ws → EveryPart (λ v. opened (v .first) (v .last) .refused ≡ 0) w ws
-every-opens b e w [] h = h .0
-every-opens b e w (v ∷ ws) h = (h .0, every-opens (dayNumber (w .last) + 1) e v ws (h .2))
+same-end : (rates rest : List ℕ) (v w : WindowDates) → Accepts v → Accepts w → SameEnd (runOf rates rest v) (runOf rates rest w)
+unfolding withStudy studyOf
+same-end rates rest v w k ok =
+    record {
+      number = run-shares rates rest v w k ok (λ (r : FileRun). r .refused) refl;
+      block = run-shares rates rest v w k ok (λ (r : FileRun). r .block) refl;
+      place = run-shares rates rest v w k ok (λ (r : FileRun). r .place) refl;
+      taken = run-shares rates rest v w k ok (λ (r : FileRun). r .study .taken) refl;
+    }
 
 pub files-demand-3 : FilesDemand3
 unfolding withStudy
 files-demand-3 rates rest whole part parts ok ps =
-    let o = every-opens (dayNumber (whole .first)) (dayNumber (whole .last)) part parts ps in
+    let b = windowDays whole .first .0 in
+    let e = windowDays whole .last .0 in
+    let o = parts-every Accepts windowDays b e part parts ps in
     let p = plainFed rates first rest in
-    let g = fed-good rates first rest (record { accepted = tt; begun = omega tests }) in
+    let g = fed-good rates first rest (record { accepted = tt; behind = omega tests }) in
     record {
-      same-end =
-          every-map _ _
-          (λ w k.
-          let x = run-plain rates w k rest in
-          let y = run-plain rates whole ok rest in
-          (ap (λ (r : FileRun). r .refused) x ∙ sym (ap (λ (r : FileRun). r .refused) y), ap (λ (r : FileRun). r .block) x ∙ sym (ap (λ (r : FileRun). r .block) y), ap (λ (r : FileRun). r .place) x ∙ sym (ap (λ (r : FileRun). r .place) y)))
-          part parts o;
+      same-end = every-map _ _ (λ w k. same-end rates rest w whole k ok) part parts o;
       sums =
-          same-totals (λ w. studyOf (days w .first) (days w .last) rates (p .claims)) (λ w. runOf rates rest w .study) _ _ part parts
-          (every-map _ _ (λ w k. sym (ap (λ (r : FileRun). r .study) (run-plain rates w k rest))) part parts o)
-          (sym (ap (λ (r : FileRun). r .study) (run-plain rates whole ok rest)))
-          (studies-total days rates (p .claims) (g .accepted) (dayNumber (whole .first)) (dayNumber (whole .last)) part parts
-          (file-parts (dayNumber (whole .first)) (dayNumber (whole .last)) part parts ps));
+          same-totals (λ w. studyOf (windowDays w) rates (p .claims) .sums) (λ w. runOf rates rest w .study .sums) _ _ part parts
+          (every-map _ _ (λ w k. sym (ap (λ (r : FileRun). r .study .sums) (run-plain rates w k rest))) part parts o)
+          (sym (ap (λ (r : FileRun). r .study .sums) (run-plain rates whole ok rest)))
+          (studies-total windowDays rates (p .claims) (g .accepted) b e part parts
+          (parts-map _ _ windowDays (λ w k. sound-days rates w k) b e part parts ps));
+      whole-study = has-study rates whole ok rest;
+      part-studies = every-map _ _ (λ w k. has-study rates w k rest) part parts o;
     }

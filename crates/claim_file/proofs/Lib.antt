@@ -1,14 +1,15 @@
--- `RoundTrip`: what is written reads back, what is read rewrites, a changed byte is refused. `Feeding`: a file in pieces. The other modules have
--- what these and the proofs of the calls cite.
+-- `RoundTrip`: the round trips of the calls. `Feeding`: a file in pieces. `Files`: demand 3 for files. The other modules have what these and the proofs
+-- of the calls cite.
 pub mod RoundTrip
 pub mod Feeding
 pub mod Files
+mod BlockTrips
 mod Runs
-mod Parts
-mod Tests
+mod RecordParts
+mod BlockTests
 mod Reading
 mod Changed
-mod Stores
+mod ByteStores
 mod Written
 mod Split
 mod Sealed

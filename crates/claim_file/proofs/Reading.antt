@@ -2,21 +2,20 @@
 -- Assumes nothing.
 use Prim.Native.Nat.{ℕ, zero, suc, _+_, _≤_, _<_}
 use mathlib.Core.Path.{_≡_, refl, sym, ap, _∙_}
-use mathlib.Core.Bool.{Bool, true, false, _&&_, and-false}
-use mathlib.Core.List.{List, [], _∷_}
+use mathlib.Core.Bool.{Bool, true, false, and-false}
+use mathlib.Core.List.{List, []}
 use native.Mathlib.Omega.{arith}
 use native.Mathlib.Nat.{not-suc-le-zero, le-of-suc-le-suc}
 use lib.ListN.{length, getD, set, replicate, length-set, getD-replicate}
 use lib.Seq.{ext-getD, getD-set-same, getD-set-other}
 use lib.Dec.{leb, eqb}
 use borrow.Author.Tests.{le-leb, lt-leb, eqb-true, eqb-false}
-use Rattle.calendar.specs.Calendar.{pick}
-use Rattle.calendar.proofs.Tests.{by, tests}
+use Rattle.basics.specs.Pick.{pick}
+use Rattle.basics.proofs.Tests.{by, tests}
 use Rattle.claim_months.specs.declared.Claim.{Claim}
-use Rattle.claim_file.specs.declared.BlockRead.{BlockRead}
-use Rattle.claim_file.specs.declared.MaybeWindow.{MaybeWindow}
-use Rattle.claim_file.specs.declared.MaybeWindow.the-variants.{Known}
-use Rattle.claim_file.specs.Block.{claimCount, blockClaim, dateFrom, windowBlock, claimBlock}
+use Rattle.claim_file.specs.declared.MaybeDates.the-variants.{Known}
+use Rattle.claim_file.specs.Bytes.{dateFrom}
+use Rattle.claim_file.specs.Block.{claimCount, blockClaim, windowBlock, claimBlock}
 use Rattle.claim_file.specs.Answers.{noClaim, claimsIn, readOf, windowOf}
 
 -- what stands in place k when the first n claims have been read
@@ -62,7 +61,7 @@ placed-more bytes n claims c h v p = (
       ∙ ap (λ (t : Bool). pick t (blockClaim bytes k) noClaim) (leb-same (suc k) n (suc k) (n + 1) (λ a. omega arith) (λ a. omega arith))),
 )
 
-length-in : (bytes : List ℕ) (k n : ℕ) → length (claimsIn bytes k n) ≡ n
+pub length-in : (bytes : List ℕ) (k n : ℕ) → length (claimsIn bytes k n) ≡ n
 unfolding claimsIn
 length-in bytes k zero = refl
 length-in bytes k (suc n) = ap suc (length-in bytes (suc k) n)
@@ -75,12 +74,13 @@ in-place bytes k (suc n) (suc i) h =
     let e : suc k + i ≡ k + suc i = omega arith in
     in-place bytes (suc k) n i (le-of-suc-le-suc h) ∙ ap (placed bytes (claimCount bytes)) e
 
+pub at-place : (bytes : List ℕ) (i : ℕ) → i < 15 → getD (claimsIn bytes 0 15) i noClaim ≡ placed bytes (claimCount bytes) i
+at-place bytes i h = let e : 0 + i ≡ i = omega arith in in-place bytes 0 15 i h ∙ ap (placed bytes (claimCount bytes)) e
+
 pub placed-all : (bytes : List ℕ) (claims : List Claim) → Placed bytes (claimCount bytes) claims → claims ≡ claimsIn bytes 0 15
 placed-all bytes claims p =
     ext-getD noClaim claims (claimsIn bytes 0 15) (p .0 ∙ sym (length-in bytes 0 15))
-    (λ i h. let l : i < 15 = omega (arith, p .0) in
-    let e : 0 + i ≡ i = omega arith in
-    p .1 i l ∙ sym (in-place bytes 0 15 i l ∙ ap (placed bytes (claimCount bytes)) e))
+    (λ i h. let l : i < 15 = omega (arith, p .0) in p .1 i l ∙ sym (at-place bytes i l))
 
 -- a refused reading is that of the number 0
 pub read-zero : (due : ℕ) (bytes : List ℕ) → due ≡ 0 → readOf 0 [] ≡ readOf due bytes

@@ -1,295 +1,163 @@
--- What is written reads back, what was read rewrites to the very bytes, and a block with one byte changed is refused.
+-- The round trips of the calls, from those of blocks.
 -- Assumes nothing.
-use Prim.Native.Nat.{ℕ, zero, suc, _+_, _-_, _*_, _/_, _%_, _≤_, _<_}
-use mathlib.Core.Path.{_≡_, refl, sym, ap, _∙_}
-use mathlib.Core.Bool.{Bool, true, false, _&&_, and-eq-true-iff}
-use mathlib.Core.List.{List, [], _∷_, _++_, append-assoc}
+use Prim.Native.Nat.{ℕ, zero, suc, _+_, _≤_, _<_}
+use mathlib.Core.Path.{_≡_, refl, sym, ap, subst, _∙_}
+use mathlib.Core.Bool.{Bool, true, _&&_, and-eq-true-iff}
+use mathlib.Core.List.{List, [], _∷_}
 use native.Mathlib.Omega.{arith}
-use mathlib.Core.Logic.{⊎-elim}
-use native.Mathlib.Nat.{not-suc-le-zero, le-of-suc-le-suc, eq-or-lt-of-le}
-use lib.ListN.{length, getD, set, drop, length-append}
-use lib.Seq.{drop-drop, drop-cons, drop-length}
-use lib.Dec.{eqb}
-use borrow.Author.Tests.{eqb-true, le-leb, ne-eqb}
-use Rattle.calendar.specs.Calendar.{pick}
+use native.Mathlib.Nat.{not-suc-le-zero}
+use lib.ListN.{length, getD, set, take, List·getD-eq-default}
+use lib.Seq.{length-take-le, getD-take}
+use lib.Dec.{leb}
+use borrow.Author.Tests.{eq-eqb, leb-true, le-leb}
+use Rattle.basics.specs.Pick.{pick}
+use Rattle.basics.specs.Checks.{refuse-block}
+use Rattle.basics.proofs.Tests.{by, tests, pick-is, and-left, and-right}
+use Rattle.basics.proofs.Checks.{check-passed}
+use Rattle.basics.proofs.Tables.{list-table}
 use Rattle.calendar.specs.declared.Date.{Date}
-use Rattle.calendar.proofs.Laws.{same-date}
-use Rattle.calendar.proofs.Tests.{by, and-left, and-right}
 use Rattle.claim_months.specs.declared.Claim.{Claim}
-use Rattle.claim_file.specs.Block.{byteAt, twoAt, fourAt, dateFrom, claimFrom, blockClaim, claimCount, checkOf, zeroFrom, claimsPadded, framed, windowBlock, claimBlock, blockSound, two, dateBytes, claimBytes, zeros, allClaimBytes, sealed, windowBytes, blockBytes}
-use Rattle.claim_file.specs.Answers.{noClaim}
-use Rattle.claim_file.proofs.Parts.{same-claim}
-use Rattle.claim_file.proofs.Tests.{check-decides, claims-are, window-is, ClaimBlock, claim-block, WindowBlock, window-block}
-use Rattle.claim_file.proofs.Changed.{check-refused}
-use Rattle.claim_file.proofs.Stores.{length-zeros, length-all, four-bytes}
-use Rattle.claim_file.proofs.Split.{date-drop, claim-drop, zero-drop, zero-split, date-split, claim-split}
-use Rattle.claim_file.proofs.Sealed.{body, two-whole, sealed-framed, sealed-drop, sealed-again}
+use Rattle.claim_file.specs.declared.Block.{Block}
+use Rattle.claim_file.specs.declared.BlockRead.{BlockRead}
+use Rattle.claim_file.specs.declared.WindowDates.{WindowDates}
+use Rattle.claim_file.specs.declared.MaybeDates.the-variants.{Known, Refused}
+use Rattle.claim_file.specs.Bytes.{byteAt, twoAt, dateFrom}
+use Rattle.claim_file.specs.Block.{blockClaim, claimCount, windowBlock, claimBlock, blockSound, windowBytes, blockBytes}
+use Rattle.claim_file.specs.Answers.{noClaim, claimsIn, blockCheck, readOf, windowOf, writeSound, writeCheck, bytesAfter, windowAfter}
+use Rattle.claim_file.specs.Files.{claimsOfBlock}
+use Rattle.claim_file.specs.RoundTrip.{DateFits, ClaimFits, BlockFits, AreBytes, inFifteen, RoundTrips}
+use Rattle.claim_file.proofs.BlockTests.{framed-number, claims-are, claim-block, window-is, window-block}
+use Rattle.claim_file.proofs.Reading.{placed, length-in, at-place, read-known, read-refused, window-known}
+use Rattle.claim_file.proofs.Written.{write-is, write-done, window-done}
+use Rattle.claim_file.proofs.BlockTrips.{written-count, written-sound, written-claim, window-sound, window-first, window-last, rewritten, window-rewritten, framed-changed, changed-refused}
 
--- fields that their bytes hold
-pub record DateFits (d : Date) : Type 0 where
-  pub year-fits : d .year < 65536
-  pub month-fits : d .month < 256
-  pub day-fits : d .day < 256
+-- the claims in fifteen places, and the first n of them
+placed-so : (bytes : List ℕ) (cs : List Claim) (k : ℕ) → claimCount bytes ≡ length cs → (k < length cs → blockClaim bytes k ≡ getD cs k noClaim)
+    → placed bytes (claimCount bytes) k ≡ getD cs k noClaim
+placed-so bytes cs k n h =
+    pick-is (leb (suc k) (claimCount bytes)) (λ t. h (omega tests)) (λ t. sym (List·getD-eq-default cs noClaim {n = k} (omega tests)))
 
-pub record ClaimFits (c : Claim) : Type 0 where
-  pub number-fits : c .number < 4294967296
-  pub disability-fits : DateFits (c .disability)
-  pub bcd-fits : DateFits (c .bcd)
-  pub termination-fits : DateFits (c .termination)
-  pub maximum-fits : DateFits (c .maximum)
-  pub status-fits : c .status < 256
-  pub code-fits : c .code < 256
-  pub cell-fits : c .cell < 256
+fifteen : (bytes : List ℕ) (cs : List Claim) → claimCount bytes ≡ length cs → ((k : ℕ) → k < length cs → blockClaim bytes k ≡ getD cs k noClaim)
+    → claimsIn bytes 0 15 ≡ inFifteen cs
+unfolding inFifteen
+fifteen bytes cs n h =
+    list-table 15 (λ k. getD cs k noClaim) noClaim (claimsIn bytes 0 15) (length-in bytes 0 15) (λ k l. at-place bytes k l ∙ placed-so bytes cs k n (h k))
 
--- a date and a claim from their bytes
-date-back : (d : Date) (rest : List ℕ) → DateFits d → dateFrom (dateBytes d ++ rest) 0 ≡ d
-unfolding dateFrom twoAt byteAt
-date-back d rest f = same-date _ _ (two-whole (d .year) (f .year-fits)) refl refl
+first-claims : (bytes : List ℕ) (n m k : ℕ) → n ≤ m → k + n ≤ claimCount bytes → take n (claimsIn bytes k m) ≡ claimsOfBlock bytes k n
+unfolding claimsIn claimsOfBlock
+first-claims bytes zero m k h l = refl
+first-claims bytes (suc n) zero k h l = absurd (not-suc-le-zero h)
+first-claims bytes (suc n) (suc m) k h l =
+    λ i.
+    pick (le-leb (suc k) (claimCount bytes) (omega arith) i) (blockClaim bytes k) noClaim
+    ∷ first-claims bytes n m (suc k) (omega arith) (omega arith) i
 
-halves-back : (n : ℕ) → n < 4294967296 → n % 256 + 256 * (n / 256 % 256) + 65536 * (n / 65536 % 256 + 256 * (n / 16777216 % 256)) ≡ n
-halves-back n h =
-    let l : n / 65536 < 65536 = omega arith in
-    let a = two-whole (n % 65536) (omega arith) in
-    let b = two-whole (n / 65536) l in
-    let p : getD (two (n % 65536) ++ two (n / 65536)) 0 0 ≡ n % 256 = ap (λ (r : List ℕ). getD r 0 0) (four-bytes n) in
-    let q : getD (two (n % 65536) ++ two (n / 65536)) 1 0 ≡ n / 256 % 256 = ap (λ (r : List ℕ). getD r 1 0) (four-bytes n) in
-    let r : getD (two (n % 65536) ++ two (n / 65536)) 3 0 ≡ n / 16777216 % 256 = ap (λ (r : List ℕ). getD r 3 0) (four-bytes n) in
-    omega arith
+-- a reading that is not refused is that of a claim block, and a reading of block 0 that of its dates
+read-passed : (number : ℕ) (bytes : List ℕ) → readOf number bytes .refused ≡ 0 → (1 ≤ number) × (claimBlock number bytes ≡ true)
+unfolding readOf
+read-passed number bytes h =
+    let t = by (leb 1 number && claimBlock number bytes)
+    (λ (y : Bool).
+    pick {A = BlockRead} y (record { refused = 0; block = record { count = claimCount bytes; claims = claimsIn bytes 0 15 } })
+    (record { refused = refuse-block; block = record { count = 0; claims = claimsIn [] 0 15 } }) .refused ≡ 0 → y ≡ true)
+    (λ _ _. refl) (λ _ z. absurd (omega arith)) h in
+    (leb-true 1 number (and-left (leb 1 number) (claimBlock number bytes) t), and-right (leb 1 number) (claimBlock number bytes) t)
 
-claim-back : (c : Claim) (rest : List ℕ) → ClaimFits c → claimFrom (claimBytes c ++ rest) 0 ≡ c
-unfolding claimFrom fourAt dateFrom twoAt byteAt claimBytes
-claim-back c rest f =
-    same-claim _ _
-    (halves-back (c .number) (f .number-fits))
-    (date-back (c .disability) [] (f .disability-fits))
-    (date-back (c .bcd) [] (f .bcd-fits))
-    (date-back (c .termination) [] (f .termination-fits))
-    (date-back (c .maximum) [] (f .maximum-fits))
-    refl refl refl
+window-passed : (w : WindowDates) (bytes : List ℕ) → windowOf bytes ≡ Known w
+    → (windowBlock bytes ≡ true) × (w ≡ record { first = dateFrom bytes 16; last = dateFrom bytes 20 })
+unfolding windowOf
+window-passed w bytes =
+    by (windowBlock bytes)
+    (λ t. pick t (Known (record { first = dateFrom bytes 16; last = dateFrom bytes 20 })) (Refused refuse-block) ≡ Known w
+    → (t ≡ true) × (w ≡ record { first = dateFrom bytes 16; last = dateFrom bytes 20 }))
+    (λ _ e. (refl, cc))
+    (λ _ e. let z : _≡_ {A = ℕ} 0 1 = cc in absurd (omega arith))
 
--- zeros, and the zeros past a claim's fields
-zeros-zero : (n : ℕ) (rest : List ℕ) → zeroFrom (zeros n ++ rest) 0 n ≡ true
-unfolding zeros zeroFrom byteAt
-zeros-zero zero rest = refl
-zeros-zero (suc n) rest = zero-drop (0 ∷ (zeros n ++ rest)) 1 n 1 0 refl ∙ zeros-zero n rest
+write-passed : (number : ℕ) (block : Block) (old : List ℕ) → writeCheck number (block .count) (length old) ≡ 0
+    → writeSound number (block .count) (length old) ≡ true
+unfolding writeCheck
+write-passed number block old h = check-passed (writeSound number (block .count) (length old)) refuse-block (omega arith) h
 
-claim-padded : (c : Claim) (rest : List ℕ) → zeroFrom (claimBytes c ++ rest) 23 9 ≡ true
-unfolding claimBytes zeroFrom byteAt
-claim-padded c rest = refl
+write-read : (number : ℕ) (block : Block) (old : List ℕ) → BlockFits block → writeCheck number (block .count) (length old) ≡ 0
+    → readOf number (bytesAfter number block old)
+    ≡ record { refused = 0; block = record { count = block .count; claims = inFifteen (take (block .count) (block .claims)) } }
+unfolding bytesAfter writeSound
+write-read number block old f h =
+    let s = write-passed number block old h in
+    let t = simp and-eq-true-iff at s in
+    let few : block .count ≤ 15 = leb-true _ _ (t .0 .1) in
+    let low : 1 ≤ number = leb-true _ _ (t .0 .0 .0) in
+    let high : number ≤ 65535 = leb-true _ _ (t .0 .0 .1) in
+    let cs = take (block .count) (block .claims) in
+    let size : length cs ≡ block .count = length-take-le (block .count) (block .claims) (omega (arith, f .places)) in
+    let bytes = blockBytes number cs in
+    let n = written-count number cs (omega arith) in
+    let each : (k : ℕ) → k < length cs → blockClaim bytes k ≡ getD cs k noClaim =
+    λ k l.
+    written-claim number cs (omega arith) k noClaim l
+    (subst ClaimFits (sym (getD-take (block .count) (block .claims) k noClaim (omega arith))) (f .claims-fit k (omega arith))) in
+    rw s
+    (sym (read-known number bytes (claimsIn bytes 0 15) (λ z. omega arith) (written-sound number cs (omega arith) high) refl)
+    ∙ (λ i. record { refused = 0; block = record { count = (n ∙ size) i; claims = fifteen bytes cs n each i } }))
 
-drop-all : (cs : List Claim) (k : ℕ) (rest : List ℕ) → k ≤ length cs → drop (32 * k) (allClaimBytes cs ++ rest) ≡ allClaimBytes (drop k cs) ++ rest
-unfolding allClaimBytes claimBytes
-drop-all cs zero rest h = refl
-drop-all [] (suc k) rest h = absurd (not-suc-le-zero h)
-drop-all (c ∷ cs) (suc k) rest h =
-    let e : 32 * suc k ≡ 32 + 32 * k = omega arith in
-    ap (λ (n : ℕ). drop n (allClaimBytes (c ∷ cs) ++ rest)) e
-    ∙ sym (drop-drop (32 * k) 32 (allClaimBytes (c ∷ cs) ++ rest))
-    ∙ drop-all cs k rest (omega arith)
+read-write : (number : ℕ) (bytes old : List ℕ) → AreBytes bytes → readOf number bytes .refused ≡ 0 → length old ≡ 512
+    → (writeCheck number (readOf number bytes .block .count) (length old) ≡ 0) × (bytesAfter number (readOf number bytes .block) old ≡ bytes)
+unfolding byteAt twoAt
+read-write number bytes old small h l =
+    let p = read-passed number bytes h in
+    let b = claim-block number bytes (p .1) in
+    let known : BlockRead = record { refused = 0; block = record { count = claimCount bytes; claims = claimsIn bytes 0 15 } } in
+    let e : known ≡ readOf number bytes = read-known number bytes (claimsIn bytes 0 15) (λ z. omega (arith, p .0)) (p .1) refl in
+    let high : number ≤ 65535 = omega (arith, framed-number number bytes (b .framed-so), small 0, small 1) in
+    let s = write-is number (known .block) old (le-leb 1 number (p .0)) (le-leb number 65535 high) (le-leb (claimCount bytes) 15 (b .count-so)) (eq-eqb (length old) 512 l) in
+    let c = first-claims bytes (claimCount bytes) 15 0 (b .count-so) (omega arith) in
+    let d = write-done number (known .block) old bytes s (sym (ap (blockBytes number) c ∙ rewritten number bytes (λ j k. small j) (p .1))) in
+    subst (λ (r : BlockRead). (writeCheck number (r .block .count) (length old) ≡ 0) × (bytesAfter number (r .block) old ≡ bytes)) e (sym (d .0), sym (d .1))
 
--- the claims that a block holds from place k on, n of them
-unfoldable pub readClaims : List ℕ → ℕ → ℕ → List Claim
-readClaims bytes k zero = []
-readClaims bytes k (suc n) = blockClaim bytes k ∷ readClaims bytes (suc k) n
+write-read-window : (b e : Date) (old : List ℕ) → DateFits b → DateFits e → length old ≡ 512
+    → windowOf (windowAfter b e old) ≡ Known (record { first = b; last = e })
+write-read-window b e old f g l =
+    ap windowOf (sym (window-done b e old (windowBytes b e) l refl .1))
+    ∙ sym (window-known (windowBytes b e) (window-sound b e))
+    ∙ (λ i. Known (record { first = window-first b e f i; last = window-last b e g i }))
 
--- 1. What is written reads back.
-module _ (n : ℕ) (cs : List Claim) (few : length cs ≤ 15) where
-  middle : List ℕ
-  middle = allClaimBytes cs ++ zeros (494 - 32 * length cs)
+read-write-window : (w : WindowDates) (bytes old : List ℕ) → AreBytes bytes → windowOf bytes ≡ Known w → length old ≡ 512
+    → windowAfter (w .first) (w .last) old ≡ bytes
+unfolding byteAt
+read-write-window w bytes old small h l =
+    let p = window-passed w bytes h in
+    ap (λ (v : WindowDates). windowAfter (v .first) (v .last) old) (p .1)
+    ∙ sym (window-done (dateFrom bytes 16) (dateFrom bytes 20) old bytes l (sym (window-rewritten bytes (λ j k. small j) (p .0))) .1)
 
-  last : List ℕ
-  last = two (checkOf (body n (length cs) middle))
+changed : (due : ℕ) (bytes : List ℕ) (i v : ℕ) → AreBytes bytes → blockCheck due bytes ≡ 0 → i < 512 → v < 256 → (v ≡ getD bytes i 0 → ⊥)
+    → blockCheck due (set bytes i v) ≡ refuse-block
+unfolding blockCheck byteAt
+changed due bytes i v small h place new other =
+    rw (changed-refused due bytes i v (check-passed (blockSound due bytes) refuse-block (omega arith) h) place (small i) new other)
 
-  -- from claim k on
-  from-claim : (k : ℕ) → k ≤ length cs → drop (16 + 32 * k) (blockBytes n cs) ≡ allClaimBytes (drop k cs) ++ (zeros (494 - 32 * length cs) ++ last)
-  unfolding blockBytes middle last
-  from-claim k h =
-      sym (drop-drop (32 * k) 16 (blockBytes n cs))
-      ∙ ap (drop (32 * k)) (sealed-drop n (length cs) middle ∙ append-assoc (allClaimBytes cs) (zeros (494 - 32 * length cs)) last)
-      ∙ drop-all cs k (zeros (494 - 32 * length cs) ++ last) h
+changed-read : (due : ℕ) (bytes : List ℕ) (i v : ℕ) → AreBytes bytes → readOf due bytes .refused ≡ 0 → i < 512 → v < 256 → (v ≡ getD bytes i 0 → ⊥)
+    → readOf due (set bytes i v) .refused ≡ refuse-block
+unfolding byteAt readOf
+changed-read due bytes i v small h place new other =
+    let f = claim-block due bytes (read-passed due bytes h .1) .framed-so in
+    let c = claims-are due (set bytes i v) (framed-changed due bytes i v place (small i) new other f) refl refl refl in
+    sym (ap (λ (r : BlockRead). r .refused) (read-refused due (set bytes i v) c))
 
-  -- at claim k
-  at-claim : (k : ℕ) (d : Claim) → k < length cs
-      → drop (16 + 32 * k) (blockBytes n cs) ≡ claimBytes (getD cs k d) ++ (allClaimBytes (drop (suc k) cs) ++ (zeros (494 - 32 * length cs) ++ last))
-  unfolding allClaimBytes
-  at-claim k d h =
-      from-claim k (omega arith)
-      ∙ ap (λ (r : List Claim). allClaimBytes r ++ (zeros (494 - 32 * length cs) ++ last)) (drop-cons cs k d h)
-      ∙ append-assoc (claimBytes (getD cs k d)) (allClaimBytes (drop (suc k) cs)) (zeros (494 - 32 * length cs) ++ last)
+changed-window : (w : WindowDates) (bytes : List ℕ) (i v : ℕ) → AreBytes bytes → windowOf bytes ≡ Known w → i < 512 → v < 256
+    → (v ≡ getD bytes i 0 → ⊥) → windowOf (set bytes i v) ≡ Refused refuse-block
+unfolding byteAt windowOf
+changed-window w bytes i v small h place new other =
+    let f = window-block bytes (window-passed w bytes h .0) .framed-so in
+    rw (window-is (set bytes i v) (framed-changed 0 bytes i v place (small i) new other f) refl refl)
 
-  padded-all : (k : ℕ) → k ≤ length cs → claimsPadded (blockBytes n cs) k ≡ true
-  unfolding claimsPadded
-  padded-all zero h = refl
-  padded-all (suc k) h =
-      let d = getD cs k noClaim in
-      let z = zero-drop (blockBytes n cs) (16 + 32 * k) 9 (16 + 32 * k + 23) 23 refl
-      ∙ ap (λ (r : List ℕ). zeroFrom r 23 9) (at-claim k noClaim h)
-      ∙ claim-padded d (allClaimBytes (drop (suc k) cs) ++ (zeros (494 - 32 * length cs) ++ last)) in
-      λ i. padded-all k (omega arith) i && z i
-
-  rest-zero : zeroFrom (blockBytes n cs) (16 + 32 * length cs) (494 - 32 * length cs) ≡ true
-  unfolding allClaimBytes
-  rest-zero =
-      let m = 494 - 32 * length cs in
-      zero-drop (blockBytes n cs) (16 + 32 * length cs) m (16 + 32 * length cs) 0 (omega arith)
-      ∙ ap (λ (r : List ℕ). zeroFrom r 0 m)
-      (from-claim (length cs) (omega arith) ∙ ap (λ (r : List Claim). allClaimBytes r ++ (zeros m ++ last)) (drop-length cs))
-      ∙ zeros-zero m last
-
-  pub written-count : claimCount (blockBytes n cs) ≡ length cs
-  unfolding claimCount byteAt blockBytes sealed
-  written-count = refl
-
-  middle-length : length middle ≡ 494
-  unfolding middle
-  middle-length =
-      let a = length-append (allClaimBytes cs) (zeros (494 - 32 * length cs)) in
-      let b = length-all cs in
-      let c = length-zeros (494 - 32 * length cs) in
-      omega arith
-
-  pub written-sound : n ≤ 65535 → claimBlock n (blockBytes n cs) ≡ true
-  unfolding blockBytes middle
-  written-sound h =
-      let e = written-count in
-      claims-are n (blockBytes n cs)
-      (sealed-framed n (length cs) middle middle-length (omega arith))
-      (le-leb (claimCount (blockBytes n cs)) 15 (omega arith))
-      (ap (claimsPadded (blockBytes n cs)) e ∙ padded-all (length cs) (omega arith))
-      (ap (λ (k : ℕ). zeroFrom (blockBytes n cs) (16 + 32 * k) (494 - 32 * k)) e ∙ rest-zero)
-
-  pub written-claim : (k : ℕ) (d : Claim) → k < length cs → ClaimFits (getD cs k d) → blockClaim (blockBytes n cs) k ≡ getD cs k d
-  unfolding blockClaim
-  written-claim k d h f =
-      claim-drop (blockBytes n cs) (16 + 32 * k)
-      ∙ ap (λ (r : List ℕ). claimFrom r 0) (at-claim k d h)
-      ∙ claim-back (getD cs k d) (allClaimBytes (drop (suc k) cs) ++ (zeros (494 - 32 * length cs) ++ last)) f
-
-  -- the whole list of claims
-  claims-from : (d : Claim) → ((k : ℕ) → k < length cs → ClaimFits (getD cs k d)) → (m k : ℕ) → k + m ≡ length cs
-      → readClaims (blockBytes n cs) k m ≡ drop k cs
-  unfolding readClaims
-  claims-from d f zero k e = let q : k ≡ length cs = omega arith in sym (ap (λ (j : ℕ). drop j cs) q ∙ drop-length cs)
-  claims-from d f (suc m) k e =
-      let h : k < length cs = omega arith in
-      (λ i. written-claim k d h (f k h) i ∷ claims-from d f m (suc k) (omega arith) i) ∙ sym (drop-cons cs k d h)
-
-  pub written-claims : (d : Claim) → ((k : ℕ) → k < length cs → ClaimFits (getD cs k d)) → readClaims (blockBytes n cs) 0 (length cs) ≡ cs
-  written-claims d f = claims-from d f (length cs) 0 (omega arith)
-
-pub window-sound : (b e : Date) → windowBlock (windowBytes b e) ≡ true
-unfolding windowBytes claimCount byteAt sealed
-window-sound b e =
-    let m = dateBytes b ++ (dateBytes e ++ zeros 486) in
-    let z = length-zeros 486 in
-    window-is (windowBytes b e)
-    (sealed-framed 0 0 m (omega arith) (omega arith))
-    refl
-    (zero-drop (windowBytes b e) 16 486 24 8 refl ∙ ap (λ (r : List ℕ). zeroFrom r 8 486) (sealed-drop 0 0 m) ∙ zero-drop (m ++ two (checkOf (body 0 0 m))) 8 486 8 0 refl ∙ zeros-zero 486 (two (checkOf (body 0 0 m))))
-
-pub window-first : (b e : Date) → DateFits b → dateFrom (windowBytes b e) 16 ≡ b
-unfolding windowBytes
-window-first b e f =
-    let m = dateBytes b ++ (dateBytes e ++ zeros 486) in
-    date-drop (windowBytes b e) 16 16 0 refl
-    ∙ ap (λ (r : List ℕ). dateFrom r 0) (sealed-drop 0 0 m)
-    ∙ date-back b ((dateBytes e ++ zeros 486) ++ two (checkOf (body 0 0 m))) f
-
-pub window-last : (b e : Date) → DateFits e → dateFrom (windowBytes b e) 20 ≡ e
-unfolding windowBytes
-window-last b e f =
-    let m = dateBytes b ++ (dateBytes e ++ zeros 486) in
-    let t = two (checkOf (body 0 0 m)) in
-    date-drop (windowBytes b e) 16 20 4 refl
-    ∙ ap (λ (r : List ℕ). dateFrom r 4) (sealed-drop 0 0 m)
-    ∙ date-drop (m ++ t) 4 4 0 refl
-    ∙ date-back e (zeros 486 ++ t) f
-
--- 2. What was read rewrites to the very bytes.
-padded-at : (bytes : List ℕ) (n k : ℕ) → claimsPadded bytes n ≡ true → k < n → zeroFrom bytes (16 + 32 * k + 23) 9 ≡ true
-unfolding claimsPadded
-padded-at bytes zero k p h = absurd (not-suc-le-zero h)
-padded-at bytes (suc n) k p h =
-    ⊎-elim
-    (λ (q : k ≡ n). ap (λ (j : ℕ). zeroFrom bytes (16 + 32 * j + 23) 9) q ∙ and-right (claimsPadded bytes n) (zeroFrom bytes (16 + 32 * n + 23) 9) p)
-    (λ (l : k < n). padded-at bytes n k (and-left (claimsPadded bytes n) (zeroFrom bytes (16 + 32 * n + 23) 9) p) l)
-    (eq-or-lt-of-le (le-of-suc-le-suc h))
-
-module _ (due : ℕ) (bytes : List ℕ) (small : (j : ℕ) → j < 512 → byteAt bytes j < 256) where
-  claims-split : ClaimBlock due bytes → (n k : ℕ) → k + n ≤ claimCount bytes
-      → drop (16 + 32 * k) bytes ≡ allClaimBytes (readClaims bytes k n) ++ drop (16 + 32 * (k + n)) bytes
-  unfolding readClaims allClaimBytes blockClaim
-  claims-split b zero k h = let e : k ≡ k + 0 = omega arith in ap (λ (j : ℕ). drop (16 + 32 * j) bytes) e
-  claims-split b (suc n) k h =
-      let l = b .length-so in
-      let c = b .count-so in
-      let e : 16 + 32 * k + 32 ≡ 16 + 32 * suc k = omega arith in
-      let g : suc k + n ≡ k + suc n = omega arith in
-      claim-split bytes (16 + 32 * k) (omega arith) (λ j q. small j (omega arith)) (padded-at bytes (claimCount bytes) k (b .padded-so) (omega arith))
-      ∙ ap (λ (r : List ℕ). claimBytes (claimFrom bytes (16 + 32 * k)) ++ r)
-      (ap (λ (j : ℕ). drop j bytes) e ∙ claims-split b n (suc k) (omega arith) ∙ ap (λ (j : ℕ). allClaimBytes (readClaims bytes (suc k) n) ++ drop (16 + 32 * j) bytes) g)
-      ∙ sym (append-assoc (claimBytes (claimFrom bytes (16 + 32 * k))) (allClaimBytes (readClaims bytes (suc k) n)) (drop (16 + 32 * (k + suc n)) bytes))
-
-  length-read : (n k : ℕ) → length (readClaims bytes k n) ≡ n
-  unfolding readClaims
-  length-read zero k = refl
-  length-read (suc n) k = ap suc (length-read n (suc k))
-
-  pub rewritten : claimBlock due bytes ≡ true → blockBytes due (readClaims bytes 0 (claimCount bytes)) ≡ bytes
-  unfolding blockBytes
-  rewritten s =
-      let b = claim-block due bytes s in
-      let l = b .length-so in
-      let f = b .count-so in
-      let n = claimCount bytes in
-      let cs = readClaims bytes 0 n in
-      let q : length cs ≡ n = length-read n 0 in
-      let z : 494 - 32 * length cs ≡ 494 - 32 * n = omega arith in
-      let x : 16 + 32 * n + (494 - 32 * n) ≡ 510 = omega arith in
-      let m = allClaimBytes cs ++ zeros (494 - 32 * n) in
-      let g : 16 + 32 * (0 + n) ≡ 16 + 32 * n = omega arith in
-      let r : drop 16 bytes ≡ m ++ drop 510 bytes =
-      claims-split b n 0 (omega arith)
-      ∙ ap (λ (j : ℕ). allClaimBytes cs ++ drop j bytes) g
-      ∙ ap (λ (t : List ℕ). allClaimBytes cs ++ t) (zero-split bytes (16 + 32 * n) (494 - 32 * n) (omega arith) (b .rest-so) ∙ ap (λ (j : ℕ). zeros (494 - 32 * n) ++ drop j bytes) x)
-      ∙ sym (append-assoc (allClaimBytes cs) (zeros (494 - 32 * n)) (drop 510 bytes)) in
-      let a = length-append (allClaimBytes cs) (zeros (494 - 32 * n)) in
-      let o = length-all cs in
-      let u = length-zeros (494 - 32 * n) in
-      (λ i. sealed (body due (q i) (allClaimBytes cs ++ zeros (z i))))
-      ∙ sealed-again due bytes m (b .framed-so) small r (omega arith)
-
-pub window-rewritten : (bytes : List ℕ) → ((j : ℕ) → j < 512 → byteAt bytes j < 256) → windowBlock bytes ≡ true
-    → windowBytes (dateFrom bytes 16) (dateFrom bytes 20) ≡ bytes
-unfolding windowBytes
-window-rewritten bytes small s =
-    let b = window-block bytes s in
-    let l = b .length-so in
-    let m = dateBytes (dateFrom bytes 16) ++ (dateBytes (dateFrom bytes 20) ++ zeros 486) in
-    let u = length-zeros 486 in
-    let r : drop 16 bytes ≡ m ++ drop 510 bytes =
-    date-split bytes 16 (omega arith) (small 16 (omega arith)) (small 17 (omega arith))
-    ∙ ap (λ (t : List ℕ). dateBytes (dateFrom bytes 16) ++ t)
-    (date-split bytes 20 (omega arith) (small 20 (omega arith)) (small 21 (omega arith))
-    ∙ ap (λ (t : List ℕ). dateBytes (dateFrom bytes 20) ++ t) (zero-split bytes 24 486 (omega arith) (b .rest-so))) in
-    let c = b .count-so in
-    ap (λ (k : ℕ). sealed (body 0 k m)) (sym c) ∙ sealed-again 0 bytes m (b .framed-so) small r (omega arith)
-
--- 3. A block in which one byte was changed to another value is refused.
-framed-changed : (due : ℕ) (bytes : List ℕ) (i v : ℕ) → i < 512 → byteAt bytes i < 256 → v < 256 → (v ≡ byteAt bytes i → ⊥)
-    → framed due bytes ≡ true → framed due (set bytes i v) ≡ false
-unfolding framed
-framed-changed due bytes i v place old new other sound =
-    let t = simp and-eq-true-iff at sound in
-    check-decides due (set bytes i v)
-    (check-refused bytes i v (eqb-true _ _ (t .0 .0 .0)) place old new other (eqb-true _ _ (t .0 .1)))
-
-pub changed-refused : (due : ℕ) (bytes : List ℕ) (i v : ℕ) → blockSound due bytes ≡ true → i < 512 → byteAt bytes i < 256 → v < 256
-    → (v ≡ byteAt bytes i → ⊥) → blockSound due (set bytes i v) ≡ false
-unfolding blockSound
-changed-refused due bytes i v sound place old new other =
-    by (eqb due 0)
-    (λ t. pick t (windowBlock bytes) (claimBlock due bytes) ≡ true → pick t (windowBlock (set bytes i v)) (claimBlock due (set bytes i v)) ≡ false)
-    (λ e s. window-is (set bytes i v) (framed-changed 0 bytes i v place old new other (window-block bytes s .framed-so)) refl refl)
-    (λ e s. claims-are due (set bytes i v) (framed-changed due bytes i v place old new other (claim-block due bytes s .framed-so)) refl refl refl)
-    sound
+pub round-trips : RoundTrips
+round-trips =
+    record {
+      write-read = write-read;
+      read-write = read-write;
+      write-read-window = write-read-window;
+      read-write-window = read-write-window;
+      changed = changed;
+      changed-read = changed-read;
+      changed-window = changed-window;
+    }

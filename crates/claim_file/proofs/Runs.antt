@@ -3,23 +3,23 @@
 -- Assumes nothing.
 use Prim.Native.Nat.{ℕ, zero, suc, _+_, _-_, _/_, _%_, _≤_, _<_}
 use mathlib.Core.Path.{_≡_, refl, sym, ap, _∙_}
-use mathlib.Core.Bool.{Bool, true, false, _&&_, and-false, and-eq-true-iff}
+use mathlib.Core.Bool.{Bool, true, false, and-false}
 use mathlib.Core.List.{List}
 use native.Mathlib.Omega.{arith}
 use lib.ListN.{length, take, drop, getD, length-drop, length-take}
 use lib.Seq.{take-all}
 use lib.Dec.{ltb, eqb}
 use borrow.Author.Tests.{eq-eqb, ne-eqb, lt-ltb, eqb-true}
-use Rattle.calendar.specs.Calendar.{pick}
-use Rattle.calendar.proofs.Tests.{by, tests, pick-is}
+use Rattle.basics.specs.Pick.{pick}
+use Rattle.basics.proofs.Tests.{by, tests}
 use Rattle.study.specs.declared.Study.{Study}
 use Rattle.study.specs.declared.Answer.{Answer}
 use Rattle.study.specs.Study.{opened, added}
 use Rattle.claim_file.specs.declared.FileRun.{FileRun}
-use Rattle.claim_file.specs.Block.{byteAt, twoAt, blockNumber, dateFrom, blockClaim, claimCount, framed, windowBlock, claimBlock, blockSound}
-use Rattle.claim_file.specs.Begun.{begun}
-use Rattle.claim_file.specs.Run.{goesOn, stops, claimsFrom, windowOpened, blockFed, blocksFed, partFed, fed}
-use Rattle.claim_file.proofs.Tests.{claim-block, window-block}
+use Rattle.claim_file.specs.Bytes.{byteAt, twoAt, dateFrom}
+use Rattle.claim_file.specs.Block.{blockClaim, claimCount, windowBlock, claimBlock, blockSound}
+use Rattle.claim_file.specs.Run.{begun, goesOn, stops, claimsFrom, blockFed, blocksFed, partFed, fed}
+use Rattle.claim_file.proofs.BlockTests.{framed-number, claim-block, window-block}
 
 -- a sound block, as facts
 pub record Sound (due : ℕ) (bytes : List ℕ) : Type 0 where
@@ -27,10 +27,6 @@ pub record Sound (due : ℕ) (bytes : List ℕ) : Type 0 where
   pub number-so : twoAt bytes 0 ≡ due
   pub count-so : claimCount bytes ≤ 15
   pub none-so : due ≡ 0 → claimCount bytes ≡ 0
-
-framed-number : (due : ℕ) (bytes : List ℕ) → framed due bytes ≡ true → twoAt bytes 0 ≡ due
-unfolding framed blockNumber
-framed-number due bytes h = let t = simp and-eq-true-iff at h in eqb-true _ _ (t .0 .0 .1)
 
 pub sound : (due : ℕ) (bytes : List ℕ) → blockSound due bytes ≡ true → Sound due bytes
 unfolding blockSound
@@ -83,14 +79,8 @@ adds r rates bytes k n a t = pick t (claimsFrom r (a .study) rates bytes k n) (s
 
 block-begun : (r : FileRun) (rates bytes : List ℕ)
     → blockFed r rates bytes ≡ begins r rates bytes (begun (r .study) (r .due) bytes) (eqb (begun (r .study) (r .due) bytes .refused) 0)
-unfolding blockFed begun windowOpened claimsFrom
-block-begun r rates bytes =
-    pick-is (blockSound (r .due) bytes)
-    (λ e.
-    pick-is (eqb (r .due) 0)
-    (λ z. rw (e, z, sound (r .due) bytes e .none-so (eqb-true (r .due) 0 z)))
-    (λ z. rw (e, z)))
-    (λ e. rw e)
+unfolding blockFed
+block-begun r rates bytes = refl
 
 -- a refused run takes no more
 module _ (r : FileRun) (rates bytes : List ℕ) (h : r .refused ≡ 0 → ⊥) where

@@ -1,19 +1,19 @@
 -- A sealed list of a number, a count, 13 zeros and 494 bytes more: it is framed, and each framed list of bytes is one.
 -- Assumes nothing.
-use Prim.Native.Nat.{ℕ, zero, suc, _+_, _-_, _*_, _/_, _%_, _≤_, _<_}
+use Prim.Native.Nat.{ℕ, _+_, _-_, _*_, _/_, _%_, _<_}
 use mathlib.Core.Path.{_≡_, refl, sym, ap, _∙_}
-use mathlib.Core.Bool.{Bool, true, _&&_, and-eq-true-iff}
-use mathlib.Core.List.{List, [], _∷_, _++_, append-assoc}
+use mathlib.Core.Bool.{true, and-eq-true-iff}
+use mathlib.Core.List.{List, _∷_, _++_, append-assoc}
 use native.Mathlib.Omega.{arith}
 use native.Mathlib.Nat.{mod-eq-of-lt}
 use lib.ListN.{length, getD, drop, length-append, drop-of-length-le, List·getD-append}
 use lib.Seq.{getD-append-add}
-use lib.Dec.{eqb}
 use borrow.Author.Tests.{eqb-true, eq-eqb}
-use Rattle.claim_file.specs.Block.{byteAt, twoAt, blockNumber, claimCount, weightedSum, checkOf, zeroFrom, framed, two, zeros, sealed}
-use Rattle.claim_file.proofs.Tests.{framed-is, framed-length}
+use Rattle.claim_file.specs.Bytes.{byteAt, twoAt, zeroFrom, two, zeros}
+use Rattle.claim_file.specs.Block.{blockNumber, claimCount, checkOf, framed, sealed}
+use Rattle.claim_file.proofs.BlockTests.{framed-is, framed-length}
 use Rattle.claim_file.proofs.Changed.{weighted-cong}
-use Rattle.claim_file.proofs.Stores.{length-zeros}
+use Rattle.claim_file.proofs.ByteStores.{length-zeros}
 use Rattle.claim_file.proofs.Split.{part, part-split, zero-split, two-read}
 
 -- the check goes by the first 510 bytes

@@ -2,8 +2,8 @@
 -- Assumes nothing.
 use Prim.Native.Nat.{ℕ, zero, suc, _+_, _-_, _*_, _/_, _%_, _≤_, _<_}
 use mathlib.Core.Path.{_≡_, refl, sym, ap, subst, _∙_}
-use mathlib.Core.Bool.{Bool, true, _&&_}
-use mathlib.Core.List.{List, [], _∷_, _++_, append-assoc}
+use mathlib.Core.Bool.{true, _&&_}
+use mathlib.Core.List.{List, [], _∷_, _++_}
 use native.Mathlib.Omega.{arith}
 use native.Mathlib.Nat.{mod-eq-of-lt}
 use native.Mathlib.Numerals.{add-one, add-two, add-three}
@@ -11,13 +11,13 @@ use lib.ListN.{length, getD, drop, length-drop}
 use lib.Seq.{getD-drop, drop-drop, drop-cons}
 use lib.Dec.{eqb}
 use borrow.Author.Tests.{eqb-true}
-use Rattle.calendar.specs.declared.Date.{Date}
 use Rattle.calendar.proofs.Laws.{same-date}
-use Rattle.calendar.proofs.Tests.{and-left, and-right}
+use Rattle.basics.proofs.Tests.{and-left, and-right}
 use Rattle.claim_months.specs.declared.Claim.{Claim}
-use Rattle.claim_file.specs.Block.{byteAt, twoAt, fourAt, dateFrom, claimFrom, zeroFrom, two, dateBytes, claimBytes, zeros}
-use Rattle.claim_file.proofs.Parts.{same-claim}
-use Rattle.claim_file.proofs.Stores.{four-bytes}
+use Rattle.claim_file.specs.Bytes.{byteAt, twoAt, fourAt, dateFrom, zeroFrom, two, dateBytes, zeros}
+use Rattle.claim_file.specs.Record.{recordPadded, claimFrom, claimBytes}
+use Rattle.claim_file.proofs.RecordParts.{same-claim}
+use Rattle.claim_file.proofs.ByteStores.{four-bytes}
 
 -- reading from byte i on
 module _ (bytes : List ℕ) (i : ℕ) where
@@ -130,7 +130,8 @@ module _ (bytes : List ℕ) where
       ++ (d 12 (omega arith) i ++ (d 16 (omega arith) i ++ (byteAt bytes 20 ∷ byteAt bytes 21 ∷ byteAt bytes 22 ∷ o i)))))
 
 pub claim-split : (bytes : List ℕ) (i : ℕ) → i + 32 ≤ length bytes → ((j : ℕ) → j < length bytes → byteAt bytes j < 256)
-    → zeroFrom bytes (i + 23) 9 ≡ true → drop i bytes ≡ claimBytes (claimFrom bytes i) ++ drop (i + 32) bytes
+    → recordPadded bytes i ≡ true → drop i bytes ≡ claimBytes (claimFrom bytes i) ++ drop (i + 32) bytes
+unfolding recordPadded
 claim-split bytes i h b z =
     let l = length-drop i bytes in
     let s : (j : ℕ) → j < 32 → byteAt (drop i bytes) j < 256 =

@@ -1,22 +1,25 @@
 -- A block stored in runs, head, middle, zeros and check, is the sealed list of them.
 -- Assumes nothing.
-use Prim.Native.Nat.{ℕ, _+_, _-_, _*_, _/_, _%_, _≤_, _<_}
+use Prim.Native.Nat.{ℕ, _+_, _-_, _*_, _/_, _%_, _≤_}
 use mathlib.Core.Path.{_≡_, refl, sym, ap, _∙_}
 use mathlib.Core.Bool.{Bool, true, false, _&&_}
-use mathlib.Core.List.{List, [], _∷_, _++_, append-assoc}
+use mathlib.Core.List.{List, _∷_, _++_, append-assoc}
 use native.Mathlib.Omega.{arith}
 use lib.Dec.{leb, eqb}
 use borrow.Author.Tests.{eq-eqb, ne-eqb}
 use lib.ListN.{length, take, drop, length-append, List·getD-append}
 use lib.Seq.{sets, sets-eq}
-use Rattle.calendar.specs.Calendar.{pick}
+use Rattle.basics.specs.Pick.{pick}
 use Rattle.calendar.specs.declared.Date.{Date}
 use Rattle.claim_months.specs.declared.Claim.{Claim}
 use Rattle.claim_file.specs.declared.Block.{Block}
 use Rattle.claim_file.specs.Answers.{writeSound, writeCheck, bytesAfter, windowAfter}
-use Rattle.claim_file.specs.Block.{byteAt, checkOf, weightedSum, two, dateBytes, allClaimBytes, zeros, sealed, windowBytes, blockBytes}
+use Rattle.claim_file.specs.Bytes.{byteAt, two, dateBytes, zeros}
+use Rattle.claim_file.specs.Record.{allClaimBytes}
+use Rattle.claim_file.specs.Block.{checkOf, sealed, windowBytes, blockBytes}
 use Rattle.claim_file.proofs.Changed.{weighted-cong}
-use Rattle.claim_file.proofs.Stores.{run, sets-all, length-zeros, length-all}
+use Rattle.basics.proofs.Stores.{run}
+use Rattle.claim_file.proofs.ByteStores.{sets-all, length-zeros, length-all}
 
 -- the check goes by the first 510 bytes
 pub check-stored : (l bytes : List ℕ) → length l ≡ 512 → length bytes ≡ 510 → checkOf (sets l 0 bytes) ≡ checkOf bytes

@@ -1,22 +1,39 @@
--- What the calls on blocks answer, on every input.
+-- What the calls on records and blocks answer, on every input.
 use Prim.Native.Nat.{ℕ, zero, suc, _+_}
 use mathlib.Core.Bool.{Bool, _&&_}
 use mathlib.Core.List.{List, [], _∷_}
 use lib.ListN.{length, take}
+use lib.Seq.{sets}
 use lib.Dec.{leb, eqb}
 use Rattle.calendar.specs.declared.Date.{Date}
-use Rattle.calendar.specs.Calendar.{pick}
+use Rattle.basics.specs.Pick.{pick}
+use Rattle.basics.specs.Checks.{check, refuse-block}
 use Rattle.claim_months.specs.declared.Claim.{Claim}
 use Rattle.claim_file.specs.declared.Block.{Block}
 use Rattle.claim_file.specs.declared.BlockRead.{BlockRead}
-use Rattle.claim_file.specs.declared.Window.{Window}
-use Rattle.claim_file.specs.declared.MaybeWindow.{MaybeWindow}
-use Rattle.claim_file.specs.declared.MaybeWindow.the-variants.{Known, Refused}
-use Rattle.claim_file.specs.Block.{dateFrom, blockClaim, claimCount, windowBlock, claimBlock, blockSound, windowBytes, blockBytes}
+use Rattle.claim_file.specs.declared.MaybeClaim.{MaybeClaim}
+use Rattle.claim_file.specs.declared.MaybeClaim.the-variants.{Found, NoRecord}
+use Rattle.claim_file.specs.declared.MaybeDates.{MaybeDates}
+use Rattle.claim_file.specs.declared.MaybeDates.the-variants.{Known, Refused}
+use Rattle.claim_file.specs.Bytes.{dateFrom}
+use Rattle.claim_file.specs.Record.{claimFrom, claimBytes, recordPadded}
+use Rattle.claim_file.specs.Block.{blockClaim, claimCount, windowBlock, claimBlock, blockSound, windowBytes, blockBytes}
+
+-- a record at a byte: the list has its 32 bytes
+abbrev pub hasRecord : ℕ → ℕ → Bool
+hasRecord i room = leb (i + 32) room
+
+-- reading a record: the claim, unless the list ends before it or a byte past its fields is not zero
+unfoldable pub recordIn : List ℕ → ℕ → MaybeClaim
+recordIn bytes i = pick (hasRecord i (length bytes) && recordPadded bytes i) (Found (claimFrom bytes i)) NoRecord
+
+-- the lent bytes after writing one; without the room they are left
+unfoldable pub recordAfter : Claim → ℕ → List ℕ → List ℕ
+recordAfter c i old = pick (hasRecord i (length old)) (sets old i (claimBytes c)) old
 
 -- the number refused by the check of a block at the number due: 11, or 0
 unfoldable pub blockCheck : ℕ → List ℕ → ℕ
-blockCheck due bytes = pick (blockSound due bytes) 0 11
+blockCheck due bytes = check (blockSound due bytes) refuse-block
 
 -- a claim of zeros stands past a block's count
 abbrev pub noDate : Date
@@ -35,18 +52,18 @@ unfoldable pub readOf : ℕ → List ℕ → BlockRead
 readOf due bytes =
     pick (leb 1 due && claimBlock due bytes)
     (record { refused = 0; block = record { count = claimCount bytes; claims = claimsIn bytes 0 15 } })
-    (record { refused = 11; block = record { count = 0; claims = claimsIn [] 0 15 } })
+    (record { refused = refuse-block; block = record { count = 0; claims = claimsIn [] 0 15 } })
 
 -- reading block 0: the window's dates
-unfoldable pub windowOf : List ℕ → MaybeWindow
-windowOf bytes = pick (windowBlock bytes) (Known (record { first = dateFrom bytes 16; last = dateFrom bytes 20 })) (Refused 11)
+unfoldable pub windowOf : List ℕ → MaybeDates
+windowOf bytes = pick (windowBlock bytes) (Known (record { first = dateFrom bytes 16; last = dateFrom bytes 20 })) (Refused refuse-block)
 
 -- writing: more than 15 claims, claims as block 0, a number that two bytes don't hold, or a list that has not 512 bytes is refused 11
 unfoldable pub writeSound : ℕ → ℕ → ℕ → Bool
 writeSound number count room = leb 1 number && leb number 65535 && leb count 15 && eqb room 512
 
 unfoldable pub writeCheck : ℕ → ℕ → ℕ → ℕ
-writeCheck number count room = pick (writeSound number count room) 0 11
+writeCheck number count room = check (writeSound number count room) refuse-block
 
 -- the lent bytes afterwards; a refusal leaves them
 unfoldable pub bytesAfter : ℕ → Block → List ℕ → List ℕ

@@ -1,6 +1,8 @@
 -- What the claim file means: document 01's section Claim file.
+pub mod Bytes
+pub mod Record
 pub mod Block
 pub mod Answers
 pub mod Run
-pub mod Begun
 pub mod Files
+pub mod RoundTrip

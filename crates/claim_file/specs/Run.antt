@@ -1,18 +1,22 @@
 -- Document 01, Claim file: a file run takes blocks 0, 1, 2, .. in order and stops at the first refusal.
-use Prim.Native.Nat.{ℕ, zero, suc, _+_, _*_, _/_, _%_}
-use mathlib.Core.Bool.{Bool, _&&_}
-use mathlib.Core.List.{List, []}
+use Prim.Native.Nat.{ℕ, zero, suc, _+_, _/_, _%_}
+use mathlib.Core.Path.{_≡_}
+use mathlib.Core.Bool.{_&&_}
+use mathlib.Core.List.{List, _++_}
 use lib.ListN.{length, take, drop}
 use lib.Dec.{ltb, eqb}
-use Rattle.calendar.specs.Calendar.{pick}
+use Rattle.basics.specs.Pick.{pick}
+use Rattle.basics.specs.Checks.{refuse-block}
 use Rattle.study.specs.declared.Study.{Study}
-use Rattle.study.specs.Study.{fresh, opened, added}
+use Rattle.study.specs.declared.Answer.{Answer}
+use Rattle.study.specs.Study.{fresh, firstDayAlone, opened, added}
 use Rattle.claim_file.specs.declared.FileRun.{FileRun}
-use Rattle.claim_file.specs.Block.{dateFrom, blockClaim, claimCount, blockSound}
+use Rattle.claim_file.specs.Bytes.{dateFrom}
+use Rattle.claim_file.specs.Block.{blockClaim, claimCount, blockSound}
 
 -- a run before its first block: no study opened yet, so zero sums, no claims taken and the window 1950-01-01 alone
 unfoldable pub started : FileRun
-started = record { study = fresh 0 0; due = 0; refused = 0; block = 0; place = 0 }
+started = record { study = fresh firstDayAlone; due = 0; refused = 0; block = 0; place = 0 }
 
 -- a run that goes on with a study at the next block; number, block and place are 0
 unfoldable pub goesOn : FileRun → Study → FileRun
@@ -29,18 +33,18 @@ claimsFrom r s rates bytes k (suc n) =
     let a = added s (blockClaim bytes k) rates in
     pick (eqb (a .refused) 0) (claimsFrom r (a .study) rates bytes (suc k) n) (stops r (a .study) (a .refused) (suc k))
 
--- block 0 opens the study with its window's dates
-unfoldable pub windowOpened : FileRun → List ℕ → FileRun
-windowOpened r bytes =
-    let a = opened (dateFrom bytes 16) (dateFrom bytes 20) in
-    pick (eqb (a .refused) 0) (goesOn r (a .study)) (stops r (a .study) (a .refused) 0)
+-- the study to which a block's claims are added: block 0 opens it; refused if the block is not sound or its window is not
+unfoldable pub begun : Study → ℕ → List ℕ → Answer
+begun s due bytes =
+    pick (blockSound due bytes)
+    (pick (eqb due 0) (opened (dateFrom bytes 16) (dateFrom bytes 20)) (record { refused = 0; study = s }))
+    (record { refused = refuse-block; study = s })
 
--- one block
+-- one block: what begins it, and then its claims
 unfoldable pub blockFed : FileRun → List ℕ → List ℕ → FileRun
 blockFed r rates bytes =
-    pick (blockSound (r .due) bytes)
-    (pick (eqb (r .due) 0) (windowOpened r bytes) (claimsFrom r (r .study) rates bytes 0 (claimCount bytes)))
-    (stops r (r .study) 11 0)
+    let a = begun (r .study) (r .due) bytes in
+    pick (eqb (a .refused) 0) (claimsFrom r (a .study) rates bytes 0 (claimCount bytes)) (stops r (a .study) (a .refused) 0)
 
 -- the first n blocks of some bytes, up to the first refusal
 unfoldable pub blocksFed : FileRun → List ℕ → List ℕ → ℕ → FileRun
@@ -50,7 +54,7 @@ blocksFed r rates bytes (suc n) =
 
 -- a part block at the end is refused 11 under the number due there
 unfoldable pub partFed : FileRun → ℕ → FileRun
-partFed r left = pick (eqb (r .refused) 0 && ltb 0 left) (stops r (r .study) 11 0) r
+partFed r left = pick (eqb (r .refused) 0 && ltb 0 left) (stops r (r .study) refuse-block 0) r
 
 -- feeding bytes to a run: its whole blocks, then what is left
 unfoldable pub fed : FileRun → List ℕ → List ℕ → FileRun
@@ -58,8 +62,12 @@ fed r rates bytes = partFed (blocksFed r rates bytes (length bytes / 512)) (leng
 
 -- ending a run: a file without block 0 is refused 11
 unfoldable pub ended : FileRun → FileRun
-ended r = pick (eqb (r .refused) 0 && eqb (r .due) 0) (stops r (r .study) 11 0) r
+ended r = pick (eqb (r .refused) 0 && eqb (r .due) 0) (stops r (r .study) refuse-block 0) r
 
 -- the run of a whole file
 unfoldable pub fileRun : List ℕ → List ℕ → FileRun
 fileRun rates bytes = ended (fed started rates bytes)
+
+-- a file may come in pieces: after a whole number of blocks a run goes on as if all bytes had come at once; `proofs/Feeding.antt` proves it
+abbrev pub FedInPieces : Type 0
+FedInPieces = (r : FileRun) (rates a b : List ℕ) → length a % 512 ≡ 0 → fed (fed r rates a) rates b ≡ fed r rates (a ++ b)

@@ -1,51 +1,32 @@
 // Blocks of 512 bytes: their check, reading and writing.
 ghost use mathlib.Core.Path.{_≡_};
-ghost use Prim.Native.Nat.{_+_, _*_, _/_, _%_, _<_, _≤_};
+ghost use Prim.Native.Nat.{_+_, _*_, _%_, _<_, _≤_};
 ghost use denote.Ref.{now};
 ghost use lib.ListN.{length, take};
 ghost use lib.Seq.{sets};
 ghost use mathlib.Core.List.{[], _∷_, _++_};
-ghost use Rattle.claim_file.specs.Block.{claimCount, twoAt, fourAt, dateFrom, blockClaim, weightedSum, zeroFrom, claimsPadded, framed, windowBlock, claimBlock, blockSound, two, dateBytes, claimBytes, allClaimBytes, zeros, checkOf, windowBytes, blockBytes};
+ghost use Rattle.claim_file.specs.Bytes.{two, zeros};
+ghost use Rattle.claim_file.specs.Record.{allClaimBytes};
+ghost use Rattle.claim_file.specs.Block.{claimCount, blockClaim, weightedSum, claimsPadded, framed, windowBlock, claimBlock, blockSound, checkOf, windowBytes, blockBytes};
 ghost use Rattle.claim_file.specs.Answers.{noClaim, claimsIn, blockCheck, readOf, windowOf, writeCheck, bytesAfter, windowAfter};
 ghost use lib.Dec.{eqb};
-ghost use Rattle.calendar.specs.Calendar.{pick};
+ghost use Rattle.basics.specs.Pick.{pick};
 use crate::Block;
 use crate::BlockRead;
-use crate::MaybeWindow;
-use crate::Window;
+use crate::MaybeDates;
+use crate::WindowDates;
+use crate::bytes::all_zero;
+use crate::bytes::date_at;
+use crate::bytes::put_date;
+use crate::bytes::put_two;
+use crate::bytes::put_zeros;
+use crate::bytes::two_at;
+use crate::record::claim_from;
+use crate::record::is_padded;
+use crate::record::put_claim;
+use basics::refusal;
 use calendar::Date;
 use claim_months::Claim;
-
-// The number refused of a bad block.
-const BAD_BLOCK: u8 = 11;
-
-// A number of two bytes, low byte first.
-fn two_at(bytes: &[u8], at: usize) -> u16
-    requires { ⌜ at + 1 < length (now bytes) ⌝ }
-    ensures { λ r. ⌜ r ≡ twoAt (now (bytes .entry)) at ⌝ }
-{
-    bytes[at] as u16 + 256 * bytes[at + 1] as u16
-}
-
-// A number of four bytes, low byte first.
-fn four_at(bytes: &[u8], at: usize) -> u32
-    requires { ⌜ at + 3 < length (now bytes) ⌝ }
-    ensures { λ r. ⌜ r ≡ fourAt (now (bytes .entry)) at ⌝ }
-{
-    two_at(bytes, at) as u32 + 65536 * two_at(bytes, at + 2) as u32
-}
-
-// The date that stands at a byte.
-pub(crate) fn date_at(bytes: &[u8], at: usize) -> Date
-    requires { ⌜ at + 3 < length (now bytes) ⌝ }
-    ensures { λ r. ⌜ r ≡ dateFrom (now (bytes .entry)) at ⌝ }
-{
-    Date {
-        year: two_at(bytes, at),
-        month: bytes[at + 2],
-        day: bytes[at + 3],
-    }
-}
 
 // The claim at a place of a block, from 0.
 pub(crate) fn claim_at(bytes: &[u8], place: u8) -> Claim
@@ -53,17 +34,7 @@ pub(crate) fn claim_at(bytes: &[u8], place: u8) -> Claim
     requires { ⌜ place < 15 ⌝ }
     ensures { λ r. ⌜ r ≡ blockClaim (now (bytes .entry)) place ⌝ }
 {
-    let at = 16 + 32 * place as usize;
-    Claim {
-        number: four_at(bytes, at),
-        disability: date_at(bytes, at + 4),
-        bcd: date_at(bytes, at + 8),
-        termination: date_at(bytes, at + 12),
-        maximum: date_at(bytes, at + 16),
-        status: bytes[at + 20],
-        code: bytes[at + 21],
-        cell: bytes[at + 22],
-    }
+    claim_from(bytes, 16 + 32 * place as usize)
 }
 
 // The sum of the first 510 bytes, each times its place from 1.
@@ -78,19 +49,6 @@ fn weighted_sum(bytes: &[u8]) -> u32
     sum
 }
 
-// Whether the bytes of a part are zero.
-fn all_zero(bytes: &[u8], from: usize, count: usize) -> bool
-    requires { ⌜ from + count ≤ length (now bytes) ⌝ }
-    ensures { λ r. ⌜ r ≡ zeroFrom (now (bytes .entry)) from count ⌝ }
-{
-    for i in 0..count {
-        if bytes[from + i] != 0 {
-            return false;
-        }
-    }
-    true
-}
-
 // Whether the bytes past the fields of the first claims are zero.
 fn claims_padded(bytes: &[u8], count: u8) -> bool
     requires { ⌜ length (now bytes) ≡ 512 ⌝ }
@@ -100,7 +58,7 @@ fn claims_padded(bytes: &[u8], count: u8) -> bool
     let mut left = count as usize;
     while left > 0 {
         left -= 1;
-        if !all_zero(bytes, 16 + 32 * left + 23, 9) {
+        if !is_padded(bytes, 16 + 32 * left) {
             return false;
         }
     }
@@ -170,17 +128,17 @@ pub fn check(bytes: &[u8], due: u32) -> u8
     if is_sound(bytes, due) {
         return 0;
     }
-    BAD_BLOCK
+    refusal::BLOCK
 }
 
 // The window's dates, of block 0.
-pub fn read_window(bytes: &[u8]) -> MaybeWindow
+pub fn read_window(bytes: &[u8]) -> MaybeDates
     ensures { λ r. ⌜ r ≡ windowOf (now (bytes .entry)) ⌝ }
 {
     if !is_window_block(bytes) {
-        return MaybeWindow::Refused(BAD_BLOCK);
+        return MaybeDates::Refused(refusal::BLOCK);
     }
-    MaybeWindow::Known(Window {
+    MaybeDates::Known(WindowDates {
         first: date_at(bytes, 16),
         last: date_at(bytes, 20),
     })
@@ -226,7 +184,7 @@ fn refused_read() -> BlockRead
 {
     let claims = [no_claim(); 15];
     BlockRead {
-        refused: BAD_BLOCK,
+        refused: refusal::BLOCK,
         block: Block { count: 0, claims },
     }
 }
@@ -247,68 +205,6 @@ pub fn read(bytes: &[u8], due: u32) -> BlockRead
         refused: 0,
         block: Block { count, claims },
     }
-}
-
-// Stores a number in two bytes, low byte first.
-fn put_two(value: u16, at: usize, bytes: &mut [u8])
-    requires { ⌜ at + 2 ≤ length (now bytes) ⌝ }
-    ensures { λ _. ⌜ now (bytes .exit) ≡ sets (now (bytes .entry)) at (two value) ⌝ }
-{
-    bytes[at] = (value % 256) as u8;
-    bytes[at + 1] = (value / 256) as u8;
-}
-
-// Stores zeros.
-fn put_zeros(from: usize, count: usize, bytes: &mut [u8])
-    requires { ⌜ from + count ≤ length (now bytes) ⌝ }
-    ensures { λ _. ⌜ now (bytes .exit) ≡ sets (now (bytes .entry)) from (zeros count) ⌝ }
-{
-    for i in 0..count {
-        bytes[from + i] = 0;
-    }
-}
-
-// Stores a date's four bytes.
-fn put_date(date: Date, at: usize, bytes: &mut [u8])
-    requires { ⌜ at + 4 ≤ length (now bytes) ⌝ }
-    ensures { λ _. ⌜ now (bytes .exit) ≡ sets (now (bytes .entry)) at (dateBytes date) ⌝ }
-{
-    put_two(date.year, at, bytes);
-    bytes[at + 2] = date.month;
-    bytes[at + 3] = date.day;
-}
-
-// Stores a number in four bytes, low byte first.
-fn put_four(value: u32, at: usize, bytes: &mut [u8])
-    requires { ⌜ at + 4 ≤ length (now bytes) ⌝ }
-    ensures { λ _. ⌜ now (bytes .exit) ≡ sets (now (bytes .entry)) at (two (value % 65536) ++ two (value / 65536)) ⌝ }
-{
-    put_two((value % 65536) as u16, at, bytes);
-    put_two((value / 65536) as u16, at + 2, bytes);
-}
-
-// Stores a claim's four dates.
-fn put_dates(claim: Claim, at: usize, bytes: &mut [u8])
-    requires { ⌜ at + 16 ≤ length (now bytes) ⌝ }
-    ensures { λ _. ⌜ now (bytes .exit) ≡ sets (now (bytes .entry)) at (dateBytes (claim .disability) ++ (dateBytes (claim .bcd) ++ (dateBytes (claim .termination) ++ dateBytes (claim .maximum)))) ⌝ }
-{
-    put_date(claim.disability, at, bytes);
-    put_date(claim.bcd, at + 4, bytes);
-    put_date(claim.termination, at + 8, bytes);
-    put_date(claim.maximum, at + 12, bytes);
-}
-
-// Stores a claim's 32 bytes.
-fn put_claim(claim: Claim, at: usize, bytes: &mut [u8])
-    requires { ⌜ at + 32 ≤ length (now bytes) ⌝ }
-    ensures { λ _. ⌜ now (bytes .exit) ≡ sets (now (bytes .entry)) at (claimBytes claim) ⌝ }
-{
-    put_four(claim.number, at, bytes);
-    put_dates(claim, at + 4, bytes);
-    bytes[at + 20] = claim.status;
-    bytes[at + 21] = claim.code;
-    bytes[at + 22] = claim.cell;
-    put_zeros(at + 23, 9, bytes);
 }
 
 // Stores the claims of a block from byte 16 on.
@@ -373,16 +269,16 @@ pub fn write(number: u32, block: Block, bytes: &mut [u8]) -> u8
     ensures { λ r. ⌜ now (bytes .exit) ≡ bytesAfter number block (now (bytes .entry)) ⌝ }
 {
     if number < 1 {
-        return BAD_BLOCK;
+        return refusal::BLOCK;
     }
     if number > 65535 {
-        return BAD_BLOCK;
+        return refusal::BLOCK;
     }
     if block.count > 15 {
-        return BAD_BLOCK;
+        return refusal::BLOCK;
     }
     if bytes.len() != 512 {
-        return BAD_BLOCK;
+        return refusal::BLOCK;
     }
     put_block(number as u16, block, bytes);
     0
@@ -394,7 +290,7 @@ pub fn write_window(first: Date, last: Date, bytes: &mut [u8]) -> u8
     ensures { λ r. ⌜ now (bytes .exit) ≡ windowAfter first last (now (bytes .entry)) ⌝ }
 {
     if bytes.len() != 512 {
-        return BAD_BLOCK;
+        return refusal::BLOCK;
     }
     put_window(first, last, bytes);
     0

@@ -1,10 +1,18 @@
-// The claim file (document 01: Claim file): blocks and the file run.
+// The claim file (document 01: Claim file): records, blocks and the file run.
 pub mod blocks;
+mod bytes;
+pub mod record;
 pub mod run;
 
 use calendar::Date;
 use claim_months::Claim;
 use study::Study;
+
+// A record's claim, or no record.
+pub enum MaybeClaim {
+    Found(Claim),
+    NoRecord,
+}
 
 // A claim block's count and claims; past the count the claims are zeros.
 pub struct Block {
@@ -18,15 +26,15 @@ pub struct BlockRead {
     pub block: Block,
 }
 
-// The window of block 0.
-pub struct Window {
+// The window's dates, of block 0.
+pub struct WindowDates {
     pub first: Date,
     pub last: Date,
 }
 
-// The window, or the number refused.
-pub enum MaybeWindow {
-    Known(Window),
+// The window's dates, or the number refused.
+pub enum MaybeDates {
+    Known(WindowDates),
     Refused(u8),
 }
 

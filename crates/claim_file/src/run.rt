@@ -2,12 +2,12 @@
 ghost use mathlib.Core.Path.{_≡_};
 ghost use Prim.Native.Nat.{_+_, _-_, _≤_, _<_};
 ghost use denote.Ref.{now};
-ghost use Rattle.claim_file.specs.Run.{started, goesOn, stops, fed, ended, fileRun};
-ghost use Rattle.claim_file.specs.Begun.{begun};
+ghost use Rattle.claim_file.specs.Run.{started, begun, goesOn, stops, fed, ended, fileRun};
 use crate::FileRun;
 use crate::blocks::claim_at;
-use crate::blocks::date_at;
 use crate::blocks::is_sound;
+use crate::bytes::date_at;
+use basics::refusal;
 use calendar::Date;
 use study::Answer;
 use study::Study;
@@ -29,7 +29,10 @@ fn begin(study: Study, due: u32, bytes: &[u8]) -> Answer
     ensures { λ r. ⌜ r ≡ begun study due (now (bytes .entry)) ⌝ }
 {
     if !is_sound(bytes, due) {
-        return Answer { refused: 11, study };
+        return Answer {
+            refused: refusal::BLOCK,
+            study,
+        };
     }
     if due == 0 {
         return Study::open(date_at(bytes, 16), date_at(bytes, 20));
@@ -132,7 +135,7 @@ impl FileRun {
             return self;
         }
         let study = self.study;
-        self.stopped(study, 11, 0)
+        self.stopped(study, refusal::BLOCK, 0)
     }
 }
 

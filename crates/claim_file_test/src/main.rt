@@ -4,93 +4,65 @@
 // 1 claims, j a bad check, k a byte not zero in a claim, l one past the claims, m one before byte 16, n count 16, o a number right
 // in its low byte only, p block 0 alone, q a month of -1 thirtieths, r block 0 with a count, s block 0 with a byte not zero past
 // the window, t to w claims refused 2, 3, 5 and 7.
-ghost use Prim.Native.Nat.{_<_};
 use claim_file::Block;
 use claim_file::FileRun;
-use claim_file::MaybeWindow;
-use claim_file::Window;
+use claim_file::MaybeDates;
+use claim_file::WindowDates;
 use claim_file::blocks;
 use claim_file::run::run_file;
-use libc::STDOUT_FILENO;
-use std::num::wrapping_add_u64;
 use study::Study;
-
-fn put_word(word: &[u8]) {
-    io::write_all(STDOUT_FILENO, word);
-}
-
-fn put(n: u64) {
-    put_word(b" ");
-    io::print_decimal(STDOUT_FILENO, n);
-}
-
-// A number without its sign.
-fn size(x: i64) -> u64 {
-    if x < 0 {
-        let less = (-1 - x) as u64;
-        return wrapping_add_u64(less, 1);
-    }
-    x as u64
-}
-
-fn put_signed(x: i64) {
-    if x < 0 {
-        put_word(b" -");
-    } else {
-        put_word(b" ");
-    }
-    io::print_decimal(STDOUT_FILENO, size(x));
-}
+use study::Sums;
+use test_support::lists::counting;
+use test_support::lists::differences;
+use test_support::lists::filled;
+use test_support::numbers::bits;
+use test_support::print::put;
+use test_support::print::put_next;
+use test_support::print::put_next_signed;
 
 fn put_end() {
-    put_word(b"\n");
+    put(b"\n");
 }
 
-// The five closing counts of a group.
-fn put_counts(counts: [u32; 25], place: usize)
-    requires { ⌜ place < 5 ⌝ }
-{
-    put(counts[5 * place] as u64);
-    put(counts[5 * place + 1] as u64);
-    put(counts[5 * place + 2] as u64);
-    put(counts[5 * place + 3] as u64);
-    put(counts[5 * place + 4] as u64);
+fn put_counts(counts: [u32; 5]) {
+    put_next(counts[0] as u64);
+    put_next(counts[1] as u64);
+    put_next(counts[2] as u64);
+    put_next(counts[3] as u64);
+    put_next(counts[4] as u64);
 }
 
 // A group's number, thirtieths, closing counts and expected recoveries and deaths.
-fn put_group(study: Study, place: usize)
-    requires { ⌜ place < 5 ⌝ }
-{
-    let thirtieths = study.thirtieths;
-    let recoveries = study.recoveries;
-    let deaths = study.deaths;
-    let closings = study.closings;
-    put(place as u64 + 1);
-    put_signed(thirtieths[place]);
-    put_counts(closings, place);
-    put_signed(recoveries[place]);
-    put_signed(deaths[place]);
+fn put_group(sums: Sums, number: u8) {
+    let figures = sums.group(number);
+    let closings = figures.closings;
+    put_next(number as u64);
+    put_next_signed(bits(figures.thirtieths));
+    put_counts(closings);
+    put_next_signed(bits(figures.recoveries));
+    put_next_signed(bits(figures.deaths));
     put_end();
 }
 
 // The claims taken, the window and the groups.
 fn put_study(study: Study) {
-    put(study.taken as u64);
-    put(study.first.0 as u64);
-    put(study.last.0 as u64);
+    let sums = study.sums;
+    put_next(study.taken as u64);
+    put_next(study.window.first.0 as u64);
+    put_next(study.window.last.0 as u64);
     put_end();
-    put_group(study, 0);
-    put_group(study, 1);
-    put_group(study, 2);
-    put_group(study, 3);
-    put_group(study, 4);
+    put_group(sums, 1);
+    put_group(sums, 2);
+    put_group(sums, 3);
+    put_group(sums, 4);
+    put_group(sums, 5);
 }
 
 // The number refused, block and place, and the study.
 fn put_run(run: FileRun) {
-    put(run.refused as u64);
-    put(run.block as u64);
-    put(run.place as u64);
+    put_next(run.refused as u64);
+    put_next(run.block as u64);
+    put_next(run.place as u64);
     let study = run.study;
     put_study(study);
 }
@@ -106,7 +78,7 @@ fn put_file(letter: u8, table: &[u32]) {
     }
     let n = io::read_full(fd, &mut bytes);
     libc::close(fd);
-    put_word(&name);
+    put(&name);
     put_run(run_file(table, &bytes[..n]));
 }
 
@@ -125,63 +97,29 @@ fn fed_piece(run: FileRun, fd: i32, table: &[u32]) -> FileRun {
     run.feed(table, &piece[..n])
 }
 
-// The run of a file of two blocks fed in two pieces.
-fn put_halves(letter: u8, table: &[u32]) {
+// The same of two pieces.
+fn fed_two(run: FileRun, fd: i32, table: &[u32]) -> FileRun {
+    let one = fed_piece(run, fd, table);
+    fed_piece(one, fd, table)
+}
+
+// The run of a file fed in two pieces, and where it is long in two more. Some may be empty.
+fn put_pieces(letter: u8, long: bool, table: &[u32]) {
     let name = [letter];
-    put_word(&name);
+    put(&name);
     let fd = os::open_read(&name);
-    let one = fed_piece(FileRun::start(), fd, table);
-    let two = fed_piece(one, fd, table);
-    libc::close(fd);
-    put_run(two.end());
-}
-
-// The run of a file fed in four pieces, some of them empty.
-fn put_pieces(letter: u8, table: &[u32]) {
-    let name = [letter];
-    put_word(&name);
-    let fd = os::open_read(&name);
-    let one = fed_piece(FileRun::start(), fd, table);
-    let two = fed_piece(one, fd, table);
-    let three = fed_piece(two, fd, table);
-    let four = fed_piece(three, fd, table);
-    libc::close(fd);
-    put_run(four.end());
-}
-
-// How many bytes are not 255.
-fn touched(bytes: &[u8]) -> u64 {
-    let mut count = 0;
-    let mut i = 0;
-    while i < bytes.len() {
-        if bytes[i] != 255 {
-            count = wrapping_add_u64(count, 1);
-        }
-        i += 1;
+    let mut run = fed_two(FileRun::start(), fd, table);
+    if long {
+        run = fed_two(run, fd, table);
     }
-    count
+    libc::close(fd);
+    put_run(run.end());
 }
 
-// In how many places two lists differ, up to the shorter one's end.
-fn differences(a: &[u8], b: &[u8]) -> u64 {
-    let mut count = 0;
-    let mut i = 0;
-    while i < a.len() {
-        if i >= b.len() {
-            return count;
-        }
-        if a[i] != b[i] {
-            count = wrapping_add_u64(count, 1);
-        }
-        i += 1;
-    }
-    count
-}
-
-// Writing a block: the number refused, and how many bytes of a list of 255 changed.
+// Writing a block: the number refused, and how many bytes of a list of at most 513 times 255 changed.
 fn put_write(number: u32, block: Block, out: &mut [u8]) {
-    put(blocks::write(number, block, out) as u64);
-    put(touched(out));
+    put_next(blocks::write(number, block, out) as u64);
+    put_next(differences(out, &[255u8; 513]));
 }
 
 fn put_write_512(number: u32, block: Block) {
@@ -204,39 +142,39 @@ fn put_refused(block: Block) {
 
 // A block's check at numbers 0 to 2, what reading finds, and the block written again against the first.
 fn put_block(bytes: &[u8], out: &mut [u8]) {
-    put(blocks::check(bytes, 0) as u64);
-    put(blocks::check(bytes, 1) as u64);
-    put(blocks::check(bytes, 2) as u64);
+    put_next(blocks::check(bytes, 0) as u64);
+    put_next(blocks::check(bytes, 1) as u64);
+    put_next(blocks::check(bytes, 2) as u64);
     let found = blocks::read(bytes, 1);
     let block = found.block;
-    put(found.refused as u64);
-    put(block.count as u64);
-    put(blocks::write(1, block, out) as u64);
-    put(differences(bytes, out));
+    put_next(found.refused as u64);
+    put_next(block.count as u64);
+    put_next(blocks::write(1, block, out) as u64);
+    put_next(differences(bytes, out));
     put_end();
     put_refused(block);
 }
 
 // A window written, against the bytes that it was read from.
-fn put_window(window: Window, bytes: &[u8], out: &mut [u8]) {
+fn put_window(window: WindowDates, bytes: &[u8], out: &mut [u8]) {
     let first = window.first;
     let last = window.last;
-    put(first.year as u64);
-    put(last.year as u64);
-    put(blocks::write_window(first, last, out) as u64);
-    put(differences(bytes, out));
+    put_next(first.year as u64);
+    put_next(last.year as u64);
+    put_next(blocks::write_window(first, last, out) as u64);
+    put_next(differences(bytes, out));
     let mut short = [255u8; 511];
-    put(blocks::write_window(first, last, &mut short) as u64);
+    put_next(blocks::write_window(first, last, &mut short) as u64);
     put_end();
 }
 
 // Block 0's check and its window.
 fn put_head(bytes: &[u8], out: &mut [u8]) {
-    put(blocks::check(bytes, 0) as u64);
+    put_next(blocks::check(bytes, 0) as u64);
     let found = blocks::read_window(bytes);
     match found {
-        MaybeWindow::Known(window) => put_window(window, bytes, out),
-        MaybeWindow::Refused(number) => put(number as u64),
+        MaybeDates::Known(window) => put_window(window, bytes, out),
+        MaybeDates::Refused(number) => put_next(number as u64),
     }
 }
 
@@ -259,33 +197,16 @@ fn put_next_block(fd: i32) {
 // The first two blocks of a file.
 fn put_blocks(letter: u8) {
     let name = [letter];
-    put_word(&name);
+    put(&name);
     let fd = os::open_read(&name);
     put_next_head(fd);
     put_next_block(fd);
     libc::close(fd);
 }
 
-// One cell: all recovery rates 10,000, all death rates 5,000.
-fn flat() -> [u32; 958] {
-    let mut table = [10000u32; 958];
-    let mut i: usize = 479;
-    while i < 958 {
-        table[i] = 5000;
-        i += 1;
-    }
-    table
-}
-
-// Two cells, whose numbers count up from 1.
-fn counting() -> [u32; 1916] {
-    let mut table = [0u32; 1916];
-    let mut i: u32 = 0;
-    while i < 1916 {
-        table[i as usize] = i + 1;
-        i += 1;
-    }
-    table
+// Cell 0 has recovery rates 10,000 and death rates 5,000; only that cell is lent.
+fn flat() -> [u32; 1916] {
+    filled([10000; 1916], 479, 958, 5000, 0, 1000000)
 }
 
 // Tables of a wrong length, and with rates together over 1,000,000.
@@ -297,17 +218,17 @@ fn put_refused_tables() {
 }
 
 fn put_all_pieces(table: &[u32]) {
-    put_halves(b'a', table);
-    put_pieces(b'a', table);
-    put_pieces(b'b', table);
-    put_pieces(b'g', table);
-    put_pieces(b'h', table);
-    put_pieces(b'i', table);
+    put_pieces(b'a', false, table);
+    put_pieces(b'a', true, table);
+    put_pieces(b'b', true, table);
+    put_pieces(b'g', true, table);
+    put_pieces(b'h', true, table);
+    put_pieces(b'i', true, table);
 }
 
 fn main() {
     let one = flat();
-    put_files(&one);
+    put_files(&one[0..958]);
     let two = counting();
     put_files(&two);
     put_refused_tables();

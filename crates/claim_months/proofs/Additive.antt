@@ -1,20 +1,19 @@
 -- The weighted law: for any weight of durations, the sums over consecutive windows total the sum over the undivided one.
 -- Assumes nothing.
-use Prim.Native.Nat.{ℕ, zero, suc, _+_, _-_, _≤_, _<_, min, max}
+use Prim.Native.Nat.{ℕ, zero, suc, _+_, _-_, _≤_, _<_}
 use mathlib.Core.Path.{_≡_, refl, sym, ap, ap₂, _∙_}
-use mathlib.Core.Bool.{Bool, true, false, _&&_}
-use mathlib.Core.List.{List, [], _∷_}
-use lib.Dec.{leb, ltb}
-use lib.IntN.{ℤ, pos, subℕ, _+ℤ_, _*ℤ_, *ℤ-zero, +ℤ-idl, +ℤ-idr}
+use mathlib.Core.Bool.{_&&_}
+use mathlib.Core.List.{_∷_}
+use lib.Dec.{leb}
+use lib.IntN.{ℤ, pos, subℕ, _+ℤ_, _*ℤ_, *ℤ-zero, +ℤ-idl}
 use borrow.Author.Tests.{leb-true}
-use Rattle.calendar.specs.Calendar.{pick}
-use Rattle.calendar.proofs.Tests.{tests, by, and-left, and-right}
+use Rattle.basics.specs.Pick.{pick}
+use Rattle.basics.proofs.Tests.{tests, by, and-left, and-right}
 use Rattle.claim_months.specs.declared.Claim.{Claim}
 use Rattle.claim_months.specs.Claim.{isClosed, bcdDay, terminationDay, firstDuration}
 use Rattle.claim_months.specs.ClaimMonths.{monthFirst, monthLast}
-use Rattle.claim_months.specs.Exposure.{windowSound, closedIn, exposedFrom, exposedTo, meets, monthB, closingU, monthU, MonthRecord, thirtieths, monthRecord, recordsFrom, monthRecords, weighted}
-use Rattle.claim_months.specs.Windows.{Window, Parts}
-use Rattle.claim_months.proofs.Integers.{interchange, sub-chain, sub-same, times-sum}
+use Rattle.claim_months.specs.Exposure.{closedIn, exposedFrom, exposedTo, meets, monthB, closingU, monthU, thirtieths, monthRecord, recordsFrom, monthRecords, weighted}
+use Rattle.basics.proofs.Integers.{interchange, sub-chain, sub-same, times-sum}
 use Rattle.claim_months.proofs.Sound.{Sound}
 use Rattle.claim_months.proofs.Months.{next-starts, last-next, bcd-starts}
 use Rattle.claim_months.proofs.Settled.{settled, upper-settled, lower-settled, unmet-settled}

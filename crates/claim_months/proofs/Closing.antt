@@ -4,21 +4,22 @@
 use Prim.Native.Nat.{ℕ, zero, suc, _+_, _-_, _≤_, _<_, min, max}
 use mathlib.Core.Path.{_≡_, refl, sym, ap, ap₂, _∙_}
 use mathlib.Core.Bool.{Bool, true, false, _&&_, not, and-false}
-use mathlib.Core.List.{List, [], _∷_}
-use lib.Dec.{leb, ltb, eqb}
+use mathlib.Core.List.{_∷_}
+use lib.Dec.{leb, eqb}
 use borrow.Author.Tests.{leb-true, le-leb, lt-leb, ne-eqb}
 use native.Mathlib.Nat.{add-zero}
-use Rattle.calendar.specs.Calendar.{pick, dayNumber}
-use Rattle.calendar.proofs.Tests.{tests, by, pick-is, is-pick, and-left, and-right}
+use Rattle.basics.specs.Pick.{pick}
+use Rattle.calendar.specs.Calendar.{dayNumber}
+use Rattle.basics.proofs.Tests.{tests, by, pick-is, is-pick, and-left, and-right}
 use Rattle.calendar.proofs.Laws.{day-last}
 use Rattle.claim_months.specs.declared.Claim.{Claim}
+use Rattle.claim_months.specs.declared.Window.{Window}
 use Rattle.claim_months.specs.Claim.{isMissing, isClosed, bcdDay, terminationDay, firstDuration, category, within}
 use Rattle.claim_months.specs.ClaimMonths.{monthFirst, monthLast}
-use Rattle.claim_months.specs.Exposure.{closedIn, exposedFrom, exposedTo, meets, closingCategory, MonthRecord, monthRecord, recordsFrom, monthRecords, closings}
+use Rattle.claim_months.specs.Exposure.{closedIn, exposedFrom, exposedTo, meets, closingCategory, monthRecord, recordsFrom, monthRecords, closings}
 use Rattle.claim_months.proofs.Sound.{Sound}
-use Rattle.claim_months.specs.Windows.{Window}
 use Rattle.claim_months.proofs.Parts.{Holds}
-use Rattle.claim_months.proofs.Months.{first-starts, next-starts, last-next, bcd-starts, months-end}
+use Rattle.claim_months.proofs.Months.{first-starts, next-starts, last-next, months-end}
 
 -- the first of the n claim months from k on that ends on day t or later, or the one after them
 unfoldable pub monthFrom : Claim → ℕ → ℕ → ℕ → ℕ
@@ -157,9 +158,9 @@ cut-closings c ok w b m e bm me =
     ∙ cut-pick (isClosed c) (terminationDay c) b m e (w (closingDuration c) (category c)) bm me ∙ sym (closings-value c ok w b e)
 
 -- closed in a window: closed, with the termination date in it
-pub closed-holds : (c : Claim) (v : Window) → closedIn c (v .first) (v .last) ≡ true → Holds (terminationDay c) v
-closed-holds c v q = (closed-of c (v .first) (v .last) q .1, closed-of c (v .first) (v .last) q .2)
+pub closed-holds : (c : Claim) (v : Window) → closedIn c (v .first .0) (v .last .0) ≡ true → Holds (terminationDay c) v
+closed-holds c v q = (closed-of c (v .first .0) (v .last .0) q .1, closed-of c (v .first .0) (v .last .0) q .2)
 
-pub holds-closed : (c : Claim) (v : Window) → isClosed c ≡ true → Holds (terminationDay c) v → closedIn c (v .first) (v .last) ≡ true
+pub holds-closed : (c : Claim) (v : Window) → isClosed c ≡ true → Holds (terminationDay c) v → closedIn c (v .first .0) (v .last .0) ≡ true
 unfolding closedIn
-holds-closed c v z h = rw (z, le-leb (v .first) (terminationDay c) (h .0), le-leb (terminationDay c) (v .last) (h .1))
+holds-closed c v z h = rw (z, le-leb (v .first .0) (terminationDay c) (h .0), le-leb (terminationDay c) (v .last .0) (h .1))

@@ -1,20 +1,20 @@
 -- The claim months of a sound claim follow one another from BCD on, and each has 28 to 31 days.
 -- Assumes nothing.
 use Prim.Native.Nat.{ℕ, zero, suc, _+_, _-_, _*_, _≤_, _<_}
-use mathlib.Core.Path.{_≡_, refl, sym, ap, _∙_}
-use mathlib.Core.Bool.{Bool, true, false}
+use mathlib.Core.Path.{_≡_, ap, _∙_}
+use mathlib.Core.Bool.{true}
 use lib.Dec.{leb}
 use borrow.Author.Tests.{le-leb, lt-leb}
 use native.Mathlib.Nat.{add-zero}
-use Rattle.calendar.specs.Calendar.{pick, isDate, dayNumber, monthLength, monthIndex, monthStart, indexLength}
-use Rattle.calendar.proofs.Tests.{tests, by}
-use Rattle.calendar.proofs.Laws.{DateBounds, date-bounds, InMonth, date-in-month, index-length-low, index-length-high, length-high, month-step, months-rise, end-month}
+use Rattle.calendar.specs.Calendar.{isDate, monthLength, monthStart, indexLength, lastDayNumber, firstMonth}
+use Rattle.basics.proofs.Tests.{tests, by}
+use Rattle.calendar.proofs.Laws.{date-bounds, date-in-month, index-length-low, index-length-high, length-high, month-step, months-rise, end-month}
 use Rattle.claim_months.specs.declared.Claim.{Claim}
 use Rattle.claim_months.specs.Claim.{bcdDay}
 use Rattle.claim_months.specs.ClaimMonths.{bcdMonth, daysToMonthEnd, startIn, monthFirst, monthLast}
 
 module _ (c : Claim) (d : isDate (c .bcd) ≡ true) where
-  pub bcd-low : 23400 ≤ bcdMonth c
+  pub bcd-low : firstMonth ≤ bcdMonth c
   unfolding bcdMonth
   bcd-low = date-in-month (c .bcd) d .low
 
@@ -51,7 +51,7 @@ module _ (c : Claim) (d : isDate (c .bcd) ≡ true) where
       by (leb (c .bcd .day) 26) (λ _. startIn c i < monthStart i + indexLength i) (λ q. omega (tests, start-early i (omega tests)))
       (λ q. omega (tests, start-late i (omega tests)))
 
-  start-step : (i : ℕ) → 23400 ≤ i → (startIn c i + 28 ≤ startIn c (i + 1)) × (startIn c (i + 1) ≤ startIn c i + 31)
+  start-step : (i : ℕ) → firstMonth ≤ i → (startIn c i + 28 ≤ startIn c (i + 1)) × (startIn c (i + 1) ≤ startIn c i + 31)
   start-step i h =
       let r = date-bounds (c .bcd) d in
       let l = length-high (c .bcd .year) (c .bcd .month) in
@@ -98,7 +98,7 @@ module _ (c : Claim) (d : isDate (c .bcd) ≡ true) where
       omega tests
 
   -- claim month 1,801 starts after the last date
-  pub months-end : 54786 < monthFirst c 1801
+  pub months-end : lastDayNumber < monthFirst c 1801
   unfolding monthFirst
   months-end =
       let b = bcd-low in

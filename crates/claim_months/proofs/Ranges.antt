@@ -1,5 +1,6 @@
 -- Ranges of the month records: how many, their thirtieths, their durations, and the size of sums over them.
 -- Assumes nothing.
+use Rattle.calendar.specs.Calendar.{lastDayNumber}
 use Prim.Native.Nat.{ℕ, zero, suc, _+_, _-_, _*_, _≤_, _<_, min}
 use mathlib.Core.Path.{_≡_, refl}
 use mathlib.Core.Bool.{Bool, true, false, _||_, cond, and-eq-true-iff}
@@ -9,14 +10,14 @@ use lib.ListN.{length}
 use lib.IntN.{pos, negsuc, natAbs, _*ℤ_}
 use lib.Signed.{_≤ℤ_, leZ-yes}
 use native.Mathlib.Nat.{add-zero, mul-le-mul, mul-suc}
-use Rattle.calendar.specs.Calendar.{pick}
-use Rattle.calendar.proofs.Tests.{tests, by}
+use Rattle.basics.specs.Pick.{pick}
+use Rattle.basics.proofs.Tests.{tests, by}
 use Rattle.claim_months.specs.declared.Claim.{Claim}
 use Rattle.claim_months.specs.Claim.{terminationDay, firstDuration, category}
 use Rattle.claim_months.specs.ClaimMonths.{monthFirst, monthLast}
 use Rattle.claim_months.specs.Exposure.{closedIn, exposedFrom, exposedTo, meets, monthB, closingU, monthU, MonthRecord, thirtieths, monthRecord, recordsFrom, monthRecords, weighted}
 use Rattle.claim_months.specs.Span.{spanOf}
-use Rattle.claim_months.proofs.Integers.{size-sub, size-sum, size-product}
+use Rattle.basics.proofs.Integers.{size-sub, size-sum, size-product}
 use Rattle.claim_months.proofs.Sound.{Sound}
 use Rattle.claim_months.proofs.Months.{next-starts, last-next}
 use Rattle.claim_months.proofs.Closing.{closed-of}
@@ -158,7 +159,7 @@ unfolding run monthRecord
 rising-run c b e zero k d hk h = tt
 rising-run c b e (suc n) k d hk h = (h, rising-run c b e n (suc k) (d + 1) (omega tests) (omega tests))
 
-pub durations-rise : (c : Claim) → Sound c → (b e : ℕ) → e ≤ 54786 → Rising (spanOf (monthRecords c b e) .first .0) (monthRecords c b e)
+pub durations-rise : (c : Claim) → Sound c → (b e : ℕ) → e ≤ lastDayNumber → Rising (spanOf (monthRecords c b e) .first .0) (monthRecords c b e)
 unfolding spanOf
 durations-rise c ok b e h =
     by-runs c ok b e h (λ (rs : List MonthRecord). Rising (spanOf rs .first .0) rs) tt
@@ -177,6 +178,6 @@ closing-run c ok b e k m r (suc n) i h =
     let e1 : suc (k + i) ≡ k + suc i = omega tests in
     (category-none c ok b e (k + i) (ends-early c ok b e k m r i (omega tests)), rw e1 (closing-run c ok b e k m r n (suc i) (omega tests)))
 
-pub closing-last : (c : Claim) → Sound c → (b e : ℕ) → e ≤ 54786 → ClosingLast (monthRecords c b e)
+pub closing-last : (c : Claim) → Sound c → (b e : ℕ) → e ≤ lastDayNumber → ClosingLast (monthRecords c b e)
 closing-last c ok b e h =
     by-runs c ok b e h ClosingLast tt (λ k m r. rw (add-zero k) at (closing-run c ok b e k m r m 0 (omega tests)))

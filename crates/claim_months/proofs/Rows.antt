@@ -9,58 +9,57 @@ use lib.ListN.{length, drop, length-append, length-drop}
 use lib.Seq.{sets, sets-eq, take-at, drop-append-add, drop-drop}
 use lib.IntN.{ℤ}
 use native.Mathlib.Nat.{add-zero, mul-zero}
-use Rattle.calendar.specs.Calendar.{isDate}
+use Rattle.calendar.specs.Calendar.{isDate, lastDayNumber}
 use Rattle.calendar.proofs.Laws.{day-last, end-month, months-order}
-use Rattle.calendar.proofs.Tests.{tests}
+use Rattle.basics.proofs.Tests.{tests}
 use Rattle.claim_months.specs.declared.Claim.{Claim}
 use Rattle.claim_months.specs.declared.ClaimMonth.{ClaimMonth}
+use Rattle.claim_months.specs.declared.MonthDay.{MonthDay}
 use Rattle.claim_months.specs.declared.Span.{Span}
 use Rattle.claim_months.specs.Claim.{firstDuration}
 use Rattle.claim_months.specs.ClaimMonths.{bcdMonth, startIn, monthFirst, monthLast}
 use Rattle.claim_months.specs.Exposure.{exposedFrom, exposedTo, MonthRecord, monthRecord, monthRecords}
 use Rattle.claim_months.specs.Span.{spanOf}
 use Rattle.claim_months.specs.Listing.{row, rows}
-use Rattle.claim_months.specs.Helpers.{HoldsDay, RowBounds, spanRecord}
+use Rattle.claim_months.specs.Private.{HoldsDay, RowBounds, spanRecord}
 use Rattle.claim_months.proofs.Sound.{Sound}
-use Rattle.claim_months.proofs.Months.{start-low, next-starts, starts-rise}
+use Rattle.claim_months.proofs.Months.{start-low, starts-rise}
+use Rattle.claim_months.proofs.Checked.{later-day}
 use Rattle.claim_months.proofs.Run.{run}
 use Rattle.claim_months.proofs.Spans.{runSpan, span-run, Runs, by-runs, to-window, months-ordered, month-U, month-B, month-category, U-high, B-high, category-high, first-duration}
 
 -- ---- the record of a span's month
 
--- the claim month that starts in the calendar month i, and the next one
-module _ (c : Claim) (d : isDate (c .bcd) ≡ true) (n j i : ℕ) (h : i ≡ bcdMonth c + n + j) where
-  pub start-is : startIn c i ≡ monthFirst c (1 + n + j)
-  unfolding monthFirst
-  start-is = let e : i ≡ bcdMonth c + (1 + n + j - 1) = omega tests in ap (startIn c) e
+-- claim month k starts in calendar month i
+pub starts-in : (c : Claim) (k i : ℕ) → 1 ≤ k → i + 1 ≡ bcdMonth c + k → startIn c i ≡ monthFirst c k
+unfolding monthFirst
+starts-in c k i l h = let e : i ≡ bcdMonth c + (k - 1) = omega tests in ap (startIn c) e
 
-  next-is : startIn c (i + 1) ≡ monthFirst c (1 + n + j + 1)
-  unfolding monthFirst
-  next-is = let e : i + 1 ≡ bcdMonth c + (1 + n + j + 1 - 1) = omega tests in ap (startIn c) e
-
-  pub next-late : 1 ≤ startIn c (i + 1)
-  next-late = let r = next-starts c d (1 + n + j) (omega tests) in omega (tests, next-is)
-
-  pub end-is : startIn c (i + 1) - 1 ≡ monthLast c (1 + n + j)
-  unfolding monthLast
-  end-is = ap (λ (x : ℕ). x - 1) next-is
+-- one that starts by the last date starts in a month of the calendar
+pub start-within : (c : Claim) → isDate (c .bcd) ≡ true → (i : ℕ) → startIn c i ≤ lastDayNumber → i < 25200
+start-within c d i h =
+    let l = start-low c d i in
+    let y = end-month in
+    months-order i 25200 (omega tests) (omega tests)
 
 -- the records of a window are those of the claim months from the one with place n on, and the span sp says what each holds
 pub record Follows (c : Claim) (b e n : ℕ) (sp : Span) (rs : List MonthRecord) : Type 0 where
   pub runs : rs ≡ run c b e (1 + n) (sp .months)
-  pub each : (j : ℕ) → j < sp .months → spanRecord c sp n (exposedFrom c b) (exposedTo c e) j ≡ monthRecord c b e (1 + n + j)
+  pub each : (j : ℕ) → j < sp .months → (s : MonthDay) (t : ℕ) (f : MonthDay) (l : ℕ) → s .day .0 ≡ monthFirst c (1 + n + j)
+      → t ≡ monthFirst c (1 + n + j + 1) → f .day .0 ≡ exposedFrom c b → l ≡ exposedTo c e
+      → spanRecord sp j s t f l ≡ monthRecord c b e (1 + n + j)
   pub bounds : (j : ℕ) → j < sp .months → RowBounds (monthRecord c b e (1 + n + j))
-  pub within : (j : ℕ) → j < sp .months → bcdMonth c + n + j < 25200
+  pub starts : (j : ℕ) → j < sp .months → monthFirst c (1 + n + j) ≤ lastDayNumber
 
-module _ (c : Claim) (ok : Sound c) (b e : ℕ) (be : b ≤ e) (h : e ≤ 54786) where
+module _ (c : Claim) (ok : Sound c) (b e : ℕ) (be : b ≤ e) (h : e ≤ lastDayNumber) where
   none-follow : (n : ℕ) → Follows c b e n (spanOf []) []
   unfolding run spanOf
   none-follow n =
       record {
         runs = refl;
-        each = λ j q. absurd (omega tests);
+        each = λ j q s t f l hs ht hf hl. absurd (omega tests);
         bounds = λ j q. absurd (omega tests);
-        within = λ j q. absurd (omega tests);
+        starts = λ j q. absurd (omega tests);
       }
 
   module _ (n m : ℕ) (r : Runs c b e (1 + n) m) where
@@ -71,16 +70,18 @@ module _ (c : Claim) (ok : Sound c) (b e : ℕ) (be : b ≤ e) (h : e ≤ 54786)
         let v : monthFirst c (1 + n + j) + 28 * (m - j) ≤ monthFirst c (1 + n + m) = rw e1 at u in
         omega (tests, r .reaches)
 
-    month-record : (j : ℕ) → j < suc m
-        → spanRecord c (runSpan c b e (1 + n) m) n (exposedFrom c b) (exposedTo c e) j ≡ monthRecord c b e (1 + n + j)
-    unfolding spanRecord monthRecord
-    month-record j q =
+    month-record : (j : ℕ) → j < suc m → (s : MonthDay) (t : ℕ) (f : MonthDay) (l : ℕ) → s .day .0 ≡ monthFirst c (1 + n + j)
+        → t ≡ monthFirst c (1 + n + j + 1) → f .day .0 ≡ exposedFrom c b → l ≡ exposedTo c e
+        → spanRecord (runSpan c b e (1 + n) m) j s t f l ≡ monthRecord c b e (1 + n + j)
+    unfolding spanRecord monthRecord monthLast
+    month-record j q s t f l hs ht hf hl =
         let d : firstDuration c + (1 + n - 1) + j ≡ firstDuration c + (1 + n + j - 1) = omega tests in
+        let first = later-day s f ∙ ap₂ max hs hf in
         λ i.
         record {
           duration = d i;
-          first = max (monthFirst c (1 + n + j)) (exposedFrom c b);
-          last = min (monthLast c (1 + n + j)) (exposedTo c e);
+          first = first i;
+          last = min (ht i - 1) (hl i);
           U = sym (month-U c ok b e (1 + n) m r j q) i;
           B = sym (month-B c ok b e (1 + n) m r j) i;
           category = sym (month-category c ok b e (1 + n) m r j q) i;
@@ -102,19 +103,12 @@ module _ (c : Claim) (ok : Sound c) (b e : ℕ) (be : b ≤ e) (h : e ≤ 54786)
           category-high = category-high c ok b e (monthFirst c (1 + n + j)) (monthLast c (1 + n + j));
         }
 
-    month-within : (j : ℕ) → j < suc m → bcdMonth c + n + j < 25200
-    month-within j q =
-        let i = bcdMonth c + n + j in
-        let s = starts-early j q in
-        let t = to-window c e in
-        let l = start-low c (ok .bcd-date) i in
-        let x = start-is c (ok .bcd-date) n j i refl in
-        let y = end-month in
-        months-order i 25200 (omega tests) (omega tests)
+    month-starts : (j : ℕ) → j < suc m → monthFirst c (1 + n + j) ≤ lastDayNumber
+    month-starts j q = omega (tests, starts-early j q, to-window c e)
 
     some-follow : Follows c b e n (spanOf (run c b e (1 + n) (suc m))) (run c b e (1 + n) (suc m))
     some-follow =
-        rw (span-run c b e (1 + n) m) (record { runs = refl; each = month-record; bounds = month-bounds; within = month-within })
+        rw (span-run c b e (1 + n) m) (record { runs = refl; each = month-record; bounds = month-bounds; starts = month-starts })
 
   -- of the claim month that holds f
   pub follows : (x : ClaimMonth) (f : ℕ) (sp : Span) → HoldsDay c f x → f ≡ exposedFrom c b → sp ≡ spanOf (monthRecords c b e)

@@ -1,15 +1,14 @@
 -- The month records of a sound claim in a window are the records of consecutive claim months: from the one that holds f to the one that holds l.
 -- Assumes nothing.
-use Prim.Native.Nat.{ℕ, zero, suc, _+_, _-_, _*_, _≤_, _<_, min, max}
-use mathlib.Core.Path.{_≡_, refl, sym, ap, ap₂, _∙_}
-use mathlib.Core.Bool.{Bool, true, false, _&&_, and-false}
+use Prim.Native.Nat.{ℕ, zero, suc, _+_, _-_, _≤_, _<_}
+use mathlib.Core.Path.{_≡_, refl, ap, _∙_}
+use mathlib.Core.Bool.{and-false}
 use mathlib.Core.List.{List, [], _∷_}
-use lib.Dec.{leb, ltb, eqb}
-use lib.ListN.{length}
+use lib.Dec.{leb}
 use borrow.Author.Tests.{le-leb, lt-leb}
 use native.Mathlib.Nat.{add-zero}
-use Rattle.calendar.specs.Calendar.{pick}
-use Rattle.calendar.proofs.Tests.{tests, by}
+use Rattle.basics.specs.Pick.{pick}
+use Rattle.basics.proofs.Tests.{tests, by}
 use Rattle.claim_months.specs.declared.Claim.{Claim}
 use Rattle.claim_months.specs.ClaimMonths.{monthFirst, monthLast}
 use Rattle.claim_months.specs.Exposure.{exposedFrom, exposedTo, meets, MonthRecord, monthRecord, recordsFrom, monthRecords}
@@ -97,20 +96,20 @@ module _ (c : Claim) (ok : Sound c) (b e : ℕ) where
   records-none h = none-from h 1800 1
 
 -- the claim month that holds a day
-pub record HoldsDay (c : Claim) (t k n r : ℕ) : Type 0 where
+pub record HeldFrom (c : Claim) (t k n r : ℕ) : Type 0 where
   pub low : k ≤ r
   pub high : r < k + n
   pub starts : monthFirst c r ≤ t
   pub ends : t ≤ monthLast c r
 
-pub month-holds : (c : Claim) → Sound c → (t n k : ℕ) → 1 ≤ k → monthFirst c k ≤ t → t < monthFirst c (k + n) → HoldsDay c t k n (monthFrom c t k n)
+pub month-holds : (c : Claim) → Sound c → (t n k : ℕ) → 1 ≤ k → monthFirst c k ≤ t → t < monthFirst c (k + n) → HeldFrom c t k n (monthFrom c t k n)
 unfolding monthFrom
 month-holds c ok t zero k hk s p = absurd (omega (tests, ap (monthFirst c) (add-zero k)))
 month-holds c ok t (suc n) k hk s p =
     let e1 : k + 1 ≡ suc k = omega tests in
     let e2 : k + suc n ≡ suc k + n = omega tests in
     let l = rw e1 at (last-next c (ok .bcd-date) k hk) in
-    by (leb t (monthLast c k)) (λ y. HoldsDay c t k (suc n) (pick y k (monthFrom c t (suc k) n)))
+    by (leb t (monthLast c k)) (λ y. HeldFrom c t k (suc n) (pick y k (monthFrom c t (suc k) n)))
     (λ y. record { low = omega tests; high = omega tests; starts = s; ends = omega tests })
     (λ y.
     let r = month-holds c ok t n (suc k) (omega tests) (omega tests) (rw e2 at p) in

@@ -2,13 +2,13 @@
 -- thirtieths are what is settled before e + 1 less what is settled before b, whether or not the month has a record there.
 -- Assumes nothing.
 use Prim.Native.Nat.{ℕ, _+_, _-_, _≤_, _<_, min, max}
-use mathlib.Core.Path.{_≡_, refl, sym, ap, _∙_}
+use mathlib.Core.Path.{_≡_, refl}
 use mathlib.Core.Bool.{Bool, true, false, _&&_, and-false}
 use borrow.Author.Tests.{le-leb, lt-leb, lt-ltb, le-ltb}
 use lib.Dec.{leb, ltb}
 use native.Mathlib.Nat.{min-eq-left}
-use Rattle.calendar.specs.Calendar.{pick}
-use Rattle.calendar.proofs.Tests.{tests, by, pick-is, is-pick, and-false-cases}
+use Rattle.basics.specs.Pick.{pick}
+use Rattle.basics.proofs.Tests.{tests, by, pick-is, is-pick, and-false-cases}
 use mathlib.Core.Logic.{_⊎_, inl, inr, ⊎-elim}
 
 -- thirtieths of the month before day x, of a claim exposed all the while

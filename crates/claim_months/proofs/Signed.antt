@@ -7,7 +7,7 @@ use lib.IntN.{ℤ, pos, negsuc, natAbs, subℕ}
 use mir.Syntax.{w32}
 use mir.Val.{SFits, toZ, ofZ}
 use mir.Facts.{toZ-ofZ}
-use Rattle.claim_months.proofs.Integers.{size-sub}
+use Rattle.basics.proofs.Integers.{size-sub}
 
 pub small-fits : (z : ℤ) → natAbs z < 2147483648 → SFits w32 z
 small-fits (pos n) h = record { sfits = h }

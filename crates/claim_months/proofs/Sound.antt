@@ -1,14 +1,17 @@
 -- What the checks 2 to 5 say of a claim that passes them.
 -- Assumes nothing.
-use Prim.Native.Nat.{ℕ, _≤_, _<_}
-use mathlib.Core.Path.{_≡_, refl, sym, ap, _∙_}
+use Prim.Native.Nat.{_≤_}
+use mathlib.Core.Path.{_≡_, refl, sym, _∙_}
 use mathlib.Core.Bool.{Bool, true, false, not, _&&_, _||_, false≢true}
 use lib.Dec.{leb, eqb}
 use borrow.Author.Tests.{leb-true}
-use Rattle.calendar.specs.Calendar.{pick, isDate, dayNumber}
-use Rattle.calendar.proofs.Tests.{tests, by, and-left, and-right}
+use Rattle.basics.specs.Pick.{pick}
+use Rattle.calendar.specs.Calendar.{isDate, dayNumber}
+use Rattle.basics.specs.Checks.{check}
+use Rattle.basics.proofs.Tests.{tests, and-left, and-right}
+use Rattle.basics.proofs.Checks.{check-passed, then-passed}
 use Rattle.claim_months.specs.declared.Claim.{Claim}
-use Rattle.claim_months.specs.Claim.{isMissing, isClosed, bcdDay, terminationDay, ep, firstDuration, category, datesSound, statusSound, sequenceSound, epSound, claimCheck, within}
+use Rattle.claim_months.specs.Claim.{isMissing, isClosed, bcdDay, terminationDay, ep, datesSound, statusSound, sequenceSound, epSound, claimCheck}
 
 pub record Sound (c : Claim) : Type 0 where
   pub disability-date : isDate (c .disability) ≡ true
@@ -17,16 +20,10 @@ pub record Sound (c : Claim) : Type 0 where
   pub maximum-date : isMissing (c .maximum) ≡ false → isDate (c .maximum) ≡ true
   pub disability-first : dayNumber (c .disability) ≤ bcdDay c
   pub bcd-first : isClosed c ≡ true → bcdDay c ≤ terminationDay c
+  pub termination-missing : isClosed c ≡ false → isMissing (c .termination) ≡ true
   pub code-low : isClosed c ≡ true → 1 ≤ c .code
   pub code-high : isClosed c ≡ true → c .code ≤ 5
   pub ep-low : 15 ≤ ep c
-  pub dates-pass : datesSound c ≡ true
-  pub sequence-pass : sequenceSound c ≡ true
-
--- a check that gives 0 passed, and so did the ones after it
-pub passed : (t : Bool) (a n : ℕ) → 0 < n → pick t a n ≡ 0 → (t ≡ true) × (a ≡ 0)
-passed true a n h e = (refl, e)
-passed false a n h e = absurd (omega tests)
 
 -- what is asked of closed claims only
 or-closed : (z a : Bool) → (not z || a) ≡ true → z ≡ true → a ≡ true
@@ -36,6 +33,10 @@ or-closed false a e q = absurd (false≢true q)
 closed-code : (z a b : Bool) → pick z a b ≡ true → z ≡ true → a ≡ true
 closed-code true a b e q = e
 closed-code false a b e q = absurd (false≢true q)
+
+open-code : (z a b : Bool) → pick z a b ≡ true → z ≡ false → b ≡ true
+open-code false a b e q = e
+open-code true a b e q = absurd (false≢true (sym q))
 
 or-missing : (a m : Bool) → (a || m) ≡ true → m ≡ false → a ≡ true
 or-missing true m e q = refl
@@ -74,10 +75,10 @@ unfolding sequenceSound
 sequence c e =
     let z = isClosed c in
     let first = leb (dayNumber (c .disability)) (bcdDay c) in
-    let then = leb (bcdDay c) (terminationDay c) in
+    let after = leb (bcdDay c) (terminationDay c) in
     record {
-      disability-first = leb-true _ _ (and-left first (not z || then) e);
-      bcd-first = λ h. leb-true _ _ (or-closed z then (and-right first (not z || then) e) h);
+      disability-first = leb-true _ _ (and-left first (not z || after) e);
+      bcd-first = λ h. leb-true _ _ (or-closed z after (and-right first (not z || after) e) h);
     }
 
 of-tests : (c : Claim) → datesSound c ≡ true → statusSound c ≡ true → sequenceSound c ≡ true → epSound c ≡ true → Sound c
@@ -89,7 +90,8 @@ of-tests c d s q p =
     let low = leb 1 (c .code) in
     let high = leb (c .code) 5 in
     let open-sound = eqb (c .code) 0 && isMissing (c .termination) in
-    let codes = closed-code z (low && high) open-sound (and-right (leb (c .status) 1) (pick z (low && high) open-sound) s) in
+    let status = and-right (leb (c .status) 1) (pick z (low && high) open-sound) s in
+    let codes = closed-code z (low && high) open-sound status in
     record {
       disability-date = k .disability-date;
       bcd-date = k .bcd-date;
@@ -97,18 +99,17 @@ of-tests c d s q p =
       maximum-date = k .maximum-date;
       disability-first = o .disability-first;
       bcd-first = o .bcd-first;
+      termination-missing = λ h. and-right (eqb (c .code) 0) (isMissing (c .termination)) (open-code z (low && high) open-sound status h);
       code-low = λ h. leb-true _ _ (and-left low high (codes h));
       code-high = λ h. leb-true _ _ (and-right low high (codes h));
       ep-low = leb-true _ _ p;
-      dates-pass = d;
-      sequence-pass = q;
     }
 
 pub sound : (c : Claim) → claimCheck c ≡ 0 → Sound c
 unfolding claimCheck
 sound c e =
-    let p2 = passed (datesSound c) _ 2 (omega tests) e in
-    let p3 = passed (statusSound c) _ 3 (omega tests) (p2 .1) in
-    let p4 = passed (sequenceSound c) _ 4 (omega tests) (p3 .1) in
-    let p5 = passed (epSound c) 0 5 (omega tests) (p4 .1) in
-    of-tests c (p2 .0) (p3 .0) (p4 .0) (p5 .0)
+    let p2 = then-passed (check (datesSound c) 2) _ e in
+    let p3 = then-passed (check (statusSound c) 3) _ (p2 .1) in
+    let p4 = then-passed (check (sequenceSound c) 4) _ (p3 .1) in
+    of-tests c (check-passed (datesSound c) 2 (omega tests) (p2 .0)) (check-passed (statusSound c) 3 (omega tests) (p3 .0))
+    (check-passed (sequenceSound c) 4 (omega tests) (p4 .0)) (check-passed (epSound c) 5 (omega tests) (p4 .1))

@@ -1,44 +1,37 @@
 -- What the code of a span rests on: where the two claim months are that hold the first and the last exposed day, and that five numbers
 -- of them are the span of the month records.
 -- Assumes nothing.
-use Prim.Native.Nat.{ℕ, suc, _+_, _-_, _≤_, _<_, min, max}
+use Rattle.calendar.specs.Calendar.{lastDayNumber}
+use Prim.Native.Nat.{ℕ, suc, _+_, _-_, _≤_, _<_}
 use mathlib.Core.Path.{_≡_, sym, ap, ap₂, _∙_}
-use mathlib.Core.Bool.{true}
-use lib.Dec.{leb}
-use Rattle.calendar.specs.Calendar.{pick}
-use Rattle.calendar.proofs.Tests.{tests, by}
+use Rattle.basics.specs.Checks.{check}
+use Rattle.basics.proofs.Checks.{check-passed, then-passed}
+use Rattle.basics.proofs.Tests.{tests}
 use Rattle.claim_months.specs.declared.Claim.{Claim}
 use Rattle.claim_months.specs.declared.ClaimMonth.{ClaimMonth}
 use Rattle.claim_months.specs.declared.Span.{Span}
-use Rattle.claim_months.specs.Claim.{bcdDay, terminationDay, firstDuration, claimCheck}
+use Rattle.claim_months.specs.Claim.{firstDuration, claimCheck}
 use Rattle.claim_months.specs.ClaimMonths.{monthFirst, monthLast}
-use Rattle.claim_months.specs.Exposure.{windowSound, closedIn, exposedFrom, exposedTo, monthB, monthU, closingCategory, monthRecords}
-use Rattle.claim_months.specs.Helpers.{HoldsDay}
+use Rattle.claim_months.specs.Windows.{windowSound, windowCheck}
+use Rattle.claim_months.specs.Exposure.{exposedFrom, exposedTo, monthB, monthU, closingCategory, monthRecords}
+use Rattle.claim_months.specs.Private.{HoldsDay}
 use Rattle.claim_months.specs.Span.{spanOf, exposureCheck}
-use Rattle.claim_months.proofs.Sound.{Sound, passed}
-use Rattle.claim_months.proofs.Months.{next-starts, last-next, starts-rise, months-end}
+use Rattle.claim_months.proofs.Sound.{Sound}
+use Rattle.claim_months.proofs.Months.{next-starts, last-next, months-end}
 use Rattle.claim_months.proofs.Parts.{WindowBounds, window-bounds}
-use Rattle.claim_months.proofs.Closing.{closed-of}
 use Rattle.claim_months.proofs.Spans.{span-run, Runs, runs-records, to-window, months-ordered}
 
--- a claim closed in the window is exposed to its termination
-pub closed-to : (c : Claim) (b e : ℕ) → closedIn c b e ≡ true → exposedTo c e ≡ terminationDay c
-unfolding exposedTo
-closed-to c b e q =
-    let z = closed-of c b e q in
-    rw (z .0) (omega (tests, z .2))
-
 -- what the checks 1 to 5 say
-pub checked : (c : Claim) (b e : ℕ) → exposureCheck c b e ≡ 0 → WindowBounds b e × (claimCheck c ≡ 0)
-unfolding exposureCheck
-checked c b e h =
-    let p = passed (windowSound b e) (claimCheck c) 1 (omega tests) h in
-    (window-bounds b e (p .0), p .1)
+pub checks-passed : (c : Claim) (b e : ℕ) → exposureCheck c b e ≡ 0 → WindowBounds b e × (claimCheck c ≡ 0)
+unfolding exposureCheck windowCheck
+checks-passed c b e h =
+    let p = then-passed (check (windowSound b e) 1) (claimCheck c) h in
+    (window-bounds b e (check-passed (windowSound b e) 1 (omega tests) (p .0)), p .1)
 
 -- claim months x and y of a sound claim hold the first exposed day f and the last one l
-pub record Ends (c : Claim) (b e f l : ℕ) (x y : ClaimMonth) : Type 0 where
+pub record SpanEnds (c : Claim) (b e f l : ℕ) (x y : ClaimMonth) : Type 0 where
   pub sound : Sound c
-  pub window : e ≤ 54786
+  pub window : e ≤ lastDayNumber
   pub from : f ≡ exposedFrom c b
   pub to : l ≡ exposedTo c e
   pub ordered : f ≤ l
@@ -46,13 +39,13 @@ pub record Ends (c : Claim) (b e f l : ℕ) (x y : ClaimMonth) : Type 0 where
   pub end : HoldsDay c l y
 
 -- a claim month has 31 days or fewer
-pub month-days : (c : Claim) → Sound c → (d : ℕ) (x : ClaimMonth) → HoldsDay c d x → x .last ≤ x .first + 30
+pub month-days : (c : Claim) → Sound c → (d : ℕ) (x : ClaimMonth) → HoldsDay c d x → x .last .0 ≤ x .first .0 + 30
 month-days c ok d x h =
     let n = next-starts c (ok .bcd-date) (1 + x .place) (omega tests) in
     let l = last-next c (ok .bcd-date) (1 + x .place) (omega tests) in
     omega (tests, h .starts, h .ends)
 
-module _ (c : Claim) (b e f l : ℕ) (x y : ClaimMonth) (r : Ends c b e f l x y) where
+module _ (c : Claim) (b e f l : ℕ) (x y : ClaimMonth) (r : SpanEnds c b e f l x y) where
   pub places-ordered : x .place ≤ y .place
   places-ordered =
       let s : monthFirst c (1 + x .place) ≤ f = omega (tests, r .begin .starts, r .begin .from) in
@@ -67,7 +60,7 @@ module _ (c : Claim) (b e f l : ℕ) (x y : ClaimMonth) (r : Ends c b e f l x y)
       let n = months-end c (r .sound .bcd-date) in
       let p = last-next c (r .sound .bcd-date) 1800 (omega tests) in
       let s : monthFirst c (1 + y .place) ≤ l = omega (tests, r .end .starts, r .end .from) in
-      let o = months-ordered c (r .sound) l 54786 (1 + y .place) 1800 (omega (tests, r .to, r .window)) (omega tests) s (omega tests) in
+      let o = months-ordered c (r .sound) l lastDayNumber (1 + y .place) 1800 (omega (tests, r .to, r .window)) (omega tests) s (omega tests) in
       omega tests
 
   -- the run of the claim months from x to y
@@ -85,23 +78,24 @@ module _ (c : Claim) (b e f l : ℕ) (x y : ClaimMonth) (r : Ends c b e f l x y)
         holds-l = rw k (omega (tests, r .end .ends, r .end .to, r .to));
       }
 
-  pub code-span : (d n u k : ℕ) → d ≡ firstDuration c → n ≡ monthB b (x .first) (x .last) → u ≡ monthU c b e (y .first) (y .last)
-      → k ≡ closingCategory c b e (y .first) (y .last)
+  -- five numbers of the two months: the first duration d, the months m, B, U and the category
+  pub code-span : (d m n u k : ℕ) → d ≡ firstDuration c → m ≡ y .place - x .place + 1 → n ≡ monthB b (x .first .0) (x .last .0)
+      → u ≡ monthU c b e (y .first .0) (y .last .0) → k ≡ closingCategory c b e (y .first .0) (y .last .0)
       → _≡_ {A = Span}
       (record {
         first = record { 0 = d + x .place };
-        months = y .place - x .place + 1;
+        months = m;
         before = record { 0 = n };
         through = record { 0 = u };
         category = k;
       })
       (spanOf (monthRecords c b e))
-  code-span d n u k hd hn hu hk =
+  code-span d m n u k hd hm hn hu hk =
       let o = places-ordered in
-      let m = y .place - x .place in
-      let j : 1 + y .place ≡ 1 + x .place + m = omega tests in
+      let a = y .place - x .place in
+      let j : 1 + y .place ≡ 1 + x .place + a = omega tests in
       let h1 : d + x .place ≡ firstDuration c + (1 + x .place - 1) = omega tests in
-      let h2 : m + 1 ≡ suc m = omega tests in
+      let h2 : m ≡ suc a = omega tests in
       let s = r .end .starts ∙ ap (monthFirst c) j in
       let p = r .end .ends ∙ ap (monthLast c) j in
       let h3 = hn ∙ ap₂ (monthB b) (r .begin .starts) (r .begin .ends) in
@@ -116,5 +110,5 @@ module _ (c : Claim) (b e f l : ℕ) (x y : ClaimMonth) (r : Ends c b e f l x y)
         category = h5 i;
       })
       ∙ sym
-      (ap spanOf (runs-records c (r .sound) b e (1 + x .place) m (omega (tests, r .from, r .to, r .ordered)) run-of)
-      ∙ span-run c b e (1 + x .place) m)
+      (ap spanOf (runs-records c (r .sound) b e (1 + x .place) a (omega (tests, r .from, r .to, r .ordered)) run-of)
+      ∙ span-run c b e (1 + x .place) a)

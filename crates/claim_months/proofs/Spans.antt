@@ -1,29 +1,30 @@
 -- What the span says of the month records: sums over them are sums over the span's months, and the ranges of what it holds.
 -- Assumes nothing.
-use Prim.Native.Nat.{ℕ, zero, suc, _+_, _-_, _*_, _/_, _≤_, _<_, min, max}
+use Prim.Native.Nat.{ℕ, zero, suc, _+_, _-_, _*_, _≤_, _<_, min, max}
 use mathlib.Core.Path.{_≡_, refl, sym, ap, ap₂, _∙_, subst⁻¹}
-use mathlib.Core.Bool.{Bool, true, false, _&&_, _||_, not, and-false}
-use mathlib.Core.List.{List, [], _∷_}
+use mathlib.Core.Bool.{Bool, true, false, _&&_, _||_, and-false}
+use mathlib.Core.List.{List, []}
 use lib.Dec.{leb, ltb, eqb}
 use lib.ListN.{length}
-use lib.IntN.{ℤ, pos, subℕ, _+ℤ_, _*ℤ_, +ℤ-assoc, +ℤ-idl, +ℤ-idr}
+use lib.IntN.{ℤ, pos, natAbs, subℕ, _+ℤ_, _*ℤ_, +ℤ-assoc, +ℤ-idl, +ℤ-idr}
 use borrow.Author.Tests.{le-leb, lt-leb, lt-ltb, leb-true, leb-false}
 use native.Mathlib.Nat.{add-zero}
-use Rattle.calendar.specs.Calendar.{pick, dayNumber}
+use Rattle.basics.specs.Pick.{pick}
+use Rattle.calendar.specs.Calendar.{dayNumber, lastDayNumber}
 use Rattle.calendar.proofs.Laws.{day-last}
-use Rattle.calendar.proofs.Tests.{tests, by, is-pick, and-left}
+use Rattle.basics.proofs.Integers.{size-sub}
+use Rattle.basics.proofs.Tests.{tests, by, is-pick, and-left}
 use Rattle.claim_months.specs.declared.Claim.{Claim}
 use Rattle.claim_months.specs.declared.Span.{Span}
 use Rattle.claim_months.specs.Claim.{isClosed, bcdDay, terminationDay, firstDuration, ep, category}
 use Rattle.claim_months.specs.ClaimMonths.{monthFirst, monthLast}
-use Rattle.claim_months.specs.Exposure.{windowSound, closedIn, exposedFrom, exposedTo, monthB, closingU, monthU, closingCategory, MonthRecord, thirtieths, monthRecord, monthRecords, weighted, closings}
-use Rattle.claim_months.specs.Span.{lastRecord, spanOf, spanU, spanB, spanThirtieths, spanWeighted, spanClosing}
-use Rattle.claim_months.specs.Sums.{sumTo}
-use Rattle.claim_months.specs.Helpers.{spanCategory}
+use Rattle.claim_months.specs.Exposure.{closedIn, exposedFrom, exposedTo, monthB, closingU, monthU, closingCategory, MonthRecord, thirtieths, monthRecord, monthRecords, weighted, closings}
+use Rattle.claim_months.specs.Span.{lastRecord, spanOf, spanU, spanB, spanThirtieths, spanWeighted, spanClosing, SpanBounds}
+use Rattle.basics.specs.Series.{sumTo}
+use Rattle.claim_months.specs.Private.{spanCategory}
 use Rattle.claim_months.proofs.Sound.{Sound}
-use Rattle.claim_months.proofs.Months.{first-starts, next-starts, last-next, starts-rise, months-end}
-use Rattle.claim_months.proofs.Parts.{WindowBounds, window-bounds}
-use Rattle.claim_months.proofs.Run.{run, records-run, records-none, HoldsDay, month-holds}
+use Rattle.claim_months.proofs.Months.{first-starts, last-next, starts-rise, months-end}
+use Rattle.claim_months.proofs.Run.{run, records-run, records-none, month-holds}
 use Rattle.claim_months.proofs.Closing.{monthFrom, closed-of, code-range}
 
 -- a sum from its first term
@@ -118,7 +119,7 @@ months-ordered c ok x y k r xy hr s p =
     let v : monthFirst c (r + 1) + 28 * (k - (r + 1)) ≤ monthFirst c k = rw e1 at u in
     absurd (omega tests))
 
-pub runs : (c : Claim) → Sound c → (b e : ℕ) → e ≤ 54786 → exposedFrom c b ≤ exposedTo c e → (k : ℕ) × (m : ℕ) × Runs c b e k m
+pub runs : (c : Claim) → Sound c → (b e : ℕ) → e ≤ lastDayNumber → exposedFrom c b ≤ exposedTo c e → (k : ℕ) × (m : ℕ) × Runs c b e k m
 unfolding exposedFrom
 runs c ok b e h fl =
     let f = exposedFrom c b in
@@ -219,7 +220,7 @@ module _ (c : Claim) (ok : Sound c) (b e : ℕ) where
         (omega (tests, closings-run w n (suc i) (omega tests)))
 
 -- a statement of the records of a sound claim in a window holds if it holds of none, and of the records of each run of claim months
-pub by-runs : (c : Claim) → Sound c → (b e : ℕ) → e ≤ 54786 → (P : List MonthRecord → Type 0) → P []
+pub by-runs : (c : Claim) → Sound c → (b e : ℕ) → e ≤ lastDayNumber → (P : List MonthRecord → Type 0) → P []
     → ((k m : ℕ) → Runs c b e k m → P (run c b e k (suc m))) → P (monthRecords c b e)
 by-runs c ok b e h P none some =
     by (leb (exposedFrom c b) (exposedTo c e)) (λ _. P (monthRecords c b e))
@@ -259,21 +260,11 @@ closings-some c ok b e w k m r =
     let e1 : suc m - 1 ≡ m = omega tests in
     rw (span-run c b e k m, e1) (rw (add-zero k) at (closings-run c ok b e k m r w m 0 (omega tests)))
 
-pub span-weighted : (c : Claim) → Sound c → (b e : ℕ) → e ≤ 54786 → (w : ℕ → ℕ) → SameWeighted w (monthRecords c b e)
+pub span-weighted : (c : Claim) → Sound c → (b e : ℕ) → e ≤ lastDayNumber → (w : ℕ → ℕ) → SameWeighted w (monthRecords c b e)
 span-weighted c ok b e h w = by-runs c ok b e h (SameWeighted w) (weighted-none w) (weighted-some c ok b e w)
 
-pub span-closings : (c : Claim) → Sound c → (b e : ℕ) → e ≤ 54786 → (w : ℕ → ℕ → ℕ) → SameClosings w (monthRecords c b e)
+pub span-closings : (c : Claim) → Sound c → (b e : ℕ) → e ≤ lastDayNumber → (w : ℕ → ℕ → ℕ) → SameClosings w (monthRecords c b e)
 span-closings c ok b e h w = by-runs c ok b e h (SameClosings w) (closings-none w) (closings-some c ok b e w)
-
--- the ranges of what a span holds
-pub record SpanBounds (sp : Span) : Type 0 where
-  pub months-high : sp .months ≤ 1800
-  pub first-low : 0 < sp .months → 2 ≤ sp .first .0
-  pub first-high : sp .first .0 ≤ 3626
-  pub before-high : sp .before .0 ≤ 30
-  pub through-high : sp .through .0 ≤ 30
-  pub category-high : sp .category ≤ 5
-  pub closing-months : 0 < sp .category → 0 < sp .months
 
 pub B-high : (b s p : ℕ) → monthB b s p ≤ 30
 unfolding monthB
@@ -340,5 +331,12 @@ bounds-some c ok b e k m r =
       closing-months = λ h. omega tests;
     })
 
-pub span-bounds : (c : Claim) → Sound c → (b e : ℕ) → e ≤ 54786 → SpanBounds (spanOf (monthRecords c b e))
+pub span-bounds : (c : Claim) → Sound c → (b e : ℕ) → e ≤ lastDayNumber → SpanBounds (spanOf (monthRecords c b e))
 span-bounds c ok b e h = by-runs c ok b e h (λ (rs : List MonthRecord). SpanBounds (spanOf rs)) bounds-none (bounds-some c ok b e)
+
+-- the thirtieths of a span's month are at most 30 in size
+pub thirtieths-size : (sp : Span) (j : ℕ) → SpanBounds sp → natAbs (spanThirtieths sp j) ≤ 30
+unfolding spanThirtieths spanU spanB
+thirtieths-size sp j h =
+    size-sub (spanU sp j) (spanB sp j) 30 (by (eqb (j + 1) (sp .months)) (λ y. pick y (sp .through .0) 30 ≤ 30) (λ y. h .through-high) (λ y. omega tests))
+    (by (eqb j 0) (λ y. pick y (sp .before .0) 0 ≤ 30) (λ y. h .before-high) (λ y. omega tests))

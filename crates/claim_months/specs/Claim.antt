@@ -1,9 +1,11 @@
 -- Document 01, Claim: EP, first duration, category, and the checks 2 to 5 in the table's order.
 use Prim.Native.Nat.{ℕ, _+_, _-_, _/_}
-use mathlib.Core.Bool.{Bool, true, not, _&&_, _||_}
+use mathlib.Core.Bool.{Bool, not, _&&_, _||_}
 use lib.Dec.{leb, eqb}
 use Rattle.calendar.specs.declared.Date.{Date}
-use Rattle.calendar.specs.Calendar.{pick, isDate, dayNumber}
+use Rattle.basics.specs.Pick.{pick}
+use Rattle.basics.specs.Checks.{check, _then_, refuse-date, refuse-status, refuse-sequence, refuse-short-elimination}
+use Rattle.calendar.specs.Calendar.{isDate, dayNumber}
 use Rattle.claim_months.specs.declared.Claim.{Claim}
 
 -- A missing date: year, month and day all zero
@@ -59,4 +61,8 @@ epSound c = leb 15 (ep c)
 
 -- the number of the first of the checks 2 to 5 that fails, or 0
 unfoldable pub claimCheck : Claim → ℕ
-claimCheck c = pick (datesSound c) (pick (statusSound c) (pick (sequenceSound c) (pick (epSound c) 0 5) 4) 3) 2
+claimCheck c =
+    check (datesSound c) refuse-date
+    then check (statusSound c) refuse-status
+    then check (sequenceSound c) refuse-sequence
+    then check (epSound c) refuse-short-elimination

@@ -1,7 +1,8 @@
 -- Document 01, Calendar: the claim months of a claim.
 use Prim.Native.Nat.{ℕ, _+_, _-_}
 use lib.Dec.{leb}
-use Rattle.calendar.specs.Calendar.{pick, monthLength, monthIndex, monthStart, indexLength}
+use Rattle.basics.specs.Pick.{pick}
+use Rattle.calendar.specs.Calendar.{monthLength, monthIndex, monthStart, indexLength}
 use Rattle.claim_months.specs.declared.Claim.{Claim}
 
 -- the index of BCD's calendar month

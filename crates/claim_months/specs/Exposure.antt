@@ -1,17 +1,13 @@
 -- Document 01, Months of exposure: the month records of a claim in the window from day b to day e, both included.
 use Prim.Native.Nat.{ℕ, zero, suc, _+_, _-_, min, max}
-use mathlib.Core.Bool.{Bool, true, _&&_, _||_}
+use mathlib.Core.Bool.{Bool, _&&_, _||_}
 use mathlib.Core.List.{List, [], _∷_}
 use lib.Dec.{leb, ltb, eqb}
 use lib.IntN.{ℤ, pos, subℕ, _+ℤ_, _*ℤ_}
-use Rattle.calendar.specs.Calendar.{pick}
+use Rattle.basics.specs.Pick.{pick}
 use Rattle.claim_months.specs.declared.Claim.{Claim}
 use Rattle.claim_months.specs.Claim.{isClosed, bcdDay, terminationDay, category, firstDuration}
 use Rattle.claim_months.specs.ClaimMonths.{monthFirst, monthLast}
-
--- 1, window: b or e no date, or e < b. Here the window is two day numbers, of which 54,786 is the last
-unfoldable pub windowSound : ℕ → ℕ → Bool
-windowSound b e = leb b 54786 && leb e 54786 && leb b e
 
 -- The claim is closed in the window: closed with termination t in b..e
 unfoldable pub closedIn : Claim → ℕ → ℕ → Bool

@@ -1,9 +1,10 @@
 -- What the claim-month layer means: document 01's sections Calendar (claim months), Claim and Months of exposure.
+-- `ClaimFigures`: the statement of its figures. `Private`: what only the contracts of private functions cite.
 pub mod Claim
 pub mod ClaimMonths
 pub mod Exposure
 pub mod Span
 pub mod Windows
-pub mod Sums
 pub mod Listing
-pub mod Helpers
+pub mod ClaimFigures
+pub mod Private

@@ -1,17 +1,19 @@
 -- What the span of a claim's month records is, and what the calls of this layer answer.
-use Prim.Native.Nat.{ℕ, _+_, _-_}
+use Prim.Native.Nat.{ℕ, _+_, _-_, _≤_, _<_}
 use mathlib.Core.List.{List, [], _∷_}
 use lib.ListN.{length}
 use lib.Dec.{eqb}
 use lib.IntN.{ℤ, pos, subℕ, _*ℤ_}
-use Rattle.calendar.specs.Calendar.{pick}
+use Rattle.basics.specs.Pick.{pick}
+use Rattle.basics.specs.Checks.{_then_}
 use Rattle.claim_months.specs.declared.Claim.{Claim}
 use Rattle.claim_months.specs.declared.Span.{Span}
 use Rattle.claim_months.specs.declared.MaybeSpan.{MaybeSpan}
 use Rattle.claim_months.specs.declared.MaybeSpan.the-variants.{Spanned, Refused}
 use Rattle.claim_months.specs.Claim.{claimCheck}
-use Rattle.claim_months.specs.Exposure.{windowSound, MonthRecord, monthRecords}
-use Rattle.claim_months.specs.Sums.{sumTo}
+use Rattle.claim_months.specs.Windows.{windowCheck}
+use Rattle.claim_months.specs.Exposure.{MonthRecord, monthRecords}
+use Rattle.basics.specs.Series.{sumTo}
 
 -- the last of a record and those after it
 unfoldable pub lastRecord : MonthRecord → List MonthRecord → MonthRecord
@@ -48,9 +50,19 @@ spanWeighted w sp n = sumTo (λ j. pos (w (sp .first .0 + j)) *ℤ spanThirtieth
 unfoldable pub spanClosing : (ℕ → ℕ → ℕ) → Span → ℕ
 spanClosing w sp = pick (eqb (sp .category) 0) 0 (w (sp .first .0 + (sp .months - 1)) (sp .category))
 
+-- the ranges of what a span holds
+pub record SpanBounds (sp : Span) : Type 0 where
+  pub months-high : sp .months ≤ 1800
+  pub first-low : 0 < sp .months → 2 ≤ sp .first .0
+  pub first-high : sp .first .0 ≤ 3626
+  pub before-high : sp .before .0 ≤ 30
+  pub through-high : sp .through .0 ≤ 30
+  pub category-high : sp .category ≤ 5
+  pub closing-months : 0 < sp .category → 0 < sp .months
+
 -- the number of the first of the checks 1 to 5 that fails, or 0
 unfoldable pub exposureCheck : Claim → ℕ → ℕ → ℕ
-exposureCheck c b e = pick (windowSound b e) (claimCheck c) 1
+exposureCheck c b e = windowCheck b e then claimCheck c
 
 -- the span of the claim's month records in the window from day b to day e, or the number refused
 unfoldable pub spanIn : Claim → ℕ → ℕ → MaybeSpan

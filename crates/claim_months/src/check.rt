@@ -1,18 +1,24 @@
-// The checks 2 to 5 of a claim, and what the claim's own dates say.
+// The checks 2 to 5 of a claim. Each of its dates becomes a day number once.
 ghost use mathlib.Core.Path.{_≡_};
-ghost use mathlib.Core.Bool.{true, not, _||_};
-ghost use Rattle.calendar.specs.Calendar.{isDate, dayNumber};
-ghost use Prim.Native.Nat.{_≤_};
-ghost use Rattle.claim_months.specs.Claim.{within, isMissing, isClosed, ep, firstDuration, category, datesSound, statusSound, sequenceSound, claimCheck};
+ghost use mathlib.Core.Bool.{true, not, _&&_, _||_};
+ghost use Prim.Native.Nat.{_-_, _≤_};
+ghost use lib.Dec.{leb, eqb};
+ghost use Rattle.basics.specs.Pick.{pick};
+ghost use Rattle.calendar.specs.Answers.{known, dayOf};
+ghost use Rattle.claim_months.specs.Claim.{isMissing, datesSound, statusSound, claimCheck};
+ghost use Rattle.claim_months.specs.Private.{daysOf, checkedOf};
 use crate::Claim;
+use crate::ClaimDays;
+use crate::MaybeChecked;
+use crate::MaybeDays;
+use crate::sound_claim::sound_claim;
+use basics::refusal;
 use calendar::Date;
+use calendar::Day;
 use calendar::MaybeDay;
 
-// The category of a claim closed near its maximum date.
-const MAX_OUT: u8 = 4;
-
 // Whether a date is missing: year, month and day all zero.
-fn is_missing(date: Date) -> bool
+pub(crate) fn is_missing(date: Date) -> bool
     ensures { λ r. ⌜ r ≡ isMissing date ⌝ }
 {
     if date.year != 0 {
@@ -24,44 +30,38 @@ fn is_missing(date: Date) -> bool
     date.day == 0
 }
 
-// The day number of a date.
-pub(crate) fn day(date: Date) -> u32
-    requires { ⌜ isDate date ≡ true ⌝ }
-    ensures { λ r. ⌜ r ≡ dayNumber date ⌝ }
+// The day number of a date that is asked for; day 0 for another.
+fn day_if(asked: bool, date: Date) -> MaybeDay
+    ensures { λ r. ⌜ r ≡ pick asked (dayOf date) (known 0) ⌝ }
 {
-    match calendar::day_number(date) {
-        MaybeDay::Known(known) => known.0,
-        MaybeDay::NoDay => 0,
+    if asked {
+        return calendar::day_number(date);
     }
+    MaybeDay::Known(Day(0))
 }
 
-// A closed claim's termination date is a date.
-fn termination_sound(claim: Claim) -> bool
-    ensures { λ r. ⌜ r ≡ (not (isClosed claim) || isDate (claim .termination)) ⌝ }
+// Check 2: the day numbers of the claim's dates.
+fn claim_days(claim: Claim) -> MaybeDays
+    ensures { λ r. ⌜ r ≡ pick (datesSound claim) (MaybeDays.Days (daysOf claim)) MaybeDays.NoDays ⌝ }
 {
-    if claim.status != 1 {
-        return true;
-    }
-    calendar::is_date(claim.termination)
-}
-
-// Check 2.
-fn dates_sound(claim: Claim) -> bool
-    ensures { λ r. ⌜ r ≡ datesSound claim ⌝ }
-{
-    if !calendar::is_date(claim.disability) {
-        return false;
-    }
-    if !calendar::is_date(claim.bcd) {
-        return false;
-    }
-    if !termination_sound(claim) {
-        return false;
-    }
-    if is_missing(claim.maximum) {
-        return true;
-    }
-    calendar::is_date(claim.maximum)
+    let MaybeDay::Known(disability) = calendar::day_number(claim.disability) else {
+        return MaybeDays::NoDays;
+    };
+    let MaybeDay::Known(bcd) = calendar::day_number(claim.bcd) else {
+        return MaybeDays::NoDays;
+    };
+    let MaybeDay::Known(termination) = day_if(claim.status == 1, claim.termination) else {
+        return MaybeDays::NoDays;
+    };
+    let MaybeDay::Known(maximum) = day_if(!is_missing(claim.maximum), claim.maximum) else {
+        return MaybeDays::NoDays;
+    };
+    MaybeDays::Days(ClaimDays {
+        disability,
+        bcd,
+        termination,
+        maximum,
+    })
 }
 
 // Check 3.
@@ -84,79 +84,64 @@ fn status_sound(claim: Claim) -> bool
 }
 
 // Check 4.
-fn sequence_sound(claim: Claim) -> bool
-    requires { ⌜ datesSound claim ≡ true ⌝ }
-    ensures { λ r. ⌜ r ≡ sequenceSound claim ⌝ }
+fn sequence_sound(closed: bool, days: ClaimDays) -> bool
+    ensures { λ r. ⌜ r ≡ (leb (days .disability .0) (days .bcd .0) && (not closed || leb (days .bcd .0) (days .termination .0))) ⌝ }
 {
-    let bcd = day(claim.bcd);
-    if bcd < day(claim.disability) {
+    if days.bcd.0 < days.disability.0 {
         return false;
     }
-    if claim.status != 1 {
-        return true;
+    if closed {
+        return days.bcd.0 <= days.termination.0;
     }
-    bcd <= day(claim.termination)
+    true
 }
 
 // EP, the elimination period in days.
-fn elimination(claim: Claim) -> u32
-    requires { ⌜ datesSound claim ≡ true ⌝ }
-    requires { ⌜ sequenceSound claim ≡ true ⌝ }
-    ensures { λ r. ⌜ r ≡ ep claim ⌝ }
+pub(crate) fn elimination(days: ClaimDays) -> u32
+    requires { ⌜ days .disability .0 ≤ days .bcd .0 ⌝ }
+    ensures { λ r. ⌜ r ≡ days .bcd .0 - days .disability .0 ⌝ }
 {
-    day(claim.bcd) - day(claim.disability)
+    days.bcd.0 - days.disability.0
+}
+
+// The number of the first of the checks 2 to 5 that fails, of a claim that passes check 2, or 0.
+fn days_check(claim: Claim, days: ClaimDays) -> u8
+    requires { ⌜ datesSound claim ≡ true ⌝ }
+    requires { ⌜ days ≡ daysOf claim ⌝ }
+    ensures { λ r. ⌜ r ≡ claimCheck claim ⌝ }
+{
+    if !status_sound(claim) {
+        return refusal::STATUS;
+    }
+    if !sequence_sound(claim.status == 1, days) {
+        return refusal::SEQUENCE;
+    }
+    if elimination(days) < 15 {
+        return refusal::SHORT_ELIMINATION;
+    }
+    0
+}
+
+// The claim as a checked value, or the number of the first of the checks 2 to 5 that fails.
+pub(crate) fn checked(claim: Claim) -> MaybeChecked
+    ensures { λ r. ⌜ r ≡ pick (eqb (claimCheck claim) 0) (MaybeChecked.Checked (checkedOf claim)) (MaybeChecked.Refused (claimCheck claim)) ⌝ }
+{
+    let MaybeDays::Days(days) = claim_days(claim) else {
+        return MaybeChecked::Refused(refusal::DATE);
+    };
+    let refused = days_check(claim, days);
+    if refused != 0 {
+        return MaybeChecked::Refused(refused);
+    }
+    MaybeChecked::Checked(sound_claim(claim, days))
 }
 
 // The number of the first of the checks 2 to 5 that fails, or 0.
 pub fn check(claim: Claim) -> u8
     ensures { λ r. ⌜ r ≡ claimCheck claim ⌝ }
 {
-    if !dates_sound(claim) {
-        return 2;
+    match checked(claim) {
+        MaybeChecked::Checked(_) => 0,
+        MaybeChecked::Refused(refused) => refused,
     }
-    if !status_sound(claim) {
-        return 3;
-    }
-    if !sequence_sound(claim) {
-        return 4;
-    }
-    if elimination(claim) < 15 {
-        return 5;
-    }
-    0
-}
-
-// The first duration, in months.
-pub(crate) fn first_duration(claim: Claim) -> u32
-    requires { ⌜ claimCheck claim ≡ 0 ⌝ }
-    ensures { λ r. ⌜ r ≡ firstDuration claim ⌝ }
-{
-    (elimination(claim) + 15) / 30 + 1
-}
-
-// Whether a termination day is 45 days or less before or after a maximum day.
-fn near(termination: u32, maximum: u32) -> bool
-    requires { ⌜ termination ≤ 54786 ⌝ }
-    requires { ⌜ maximum ≤ 54786 ⌝ }
-    ensures { λ r. ⌜ r ≡ within 45 termination maximum ⌝ }
-{
-    if termination > maximum + 45 {
-        return false;
-    }
-    maximum <= termination + 45
-}
-
-// The category of a closed claim.
-pub(crate) fn claim_category(claim: Claim) -> u8
-    requires { ⌜ claimCheck claim ≡ 0 ⌝ }
-    requires { ⌜ isClosed claim ≡ true ⌝ }
-    ensures { λ r. ⌜ r ≡ category claim ⌝ }
-{
-    if is_missing(claim.maximum) {
-        return claim.code;
-    }
-    if near(day(claim.termination), day(claim.maximum)) {
-        return MAX_OUT;
-    }
-    claim.code
 }

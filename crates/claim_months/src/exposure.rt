@@ -1,152 +1,126 @@
 // The months of exposure of a claim in a window, as a span.
 ghost use mathlib.Core.Path.{_≡_};
-ghost use mathlib.Core.Bool.{Bool, true};
-ghost use Prim.Native.Nat.{_+_, _≤_, _<_};
-ghost use Rattle.claim_months.specs.Claim.{isClosed, claimCheck, terminationDay, bcdDay};
 ghost use mathlib.Core.List.{[]};
-ghost use Rattle.claim_months.specs.Exposure.{windowSound, closedIn, exposedFrom, exposedTo, monthB, closingU, monthU, closingCategory, monthRecords};
-ghost use Rattle.claim_months.specs.Span.{exposureCheck, spanOf, spanIn};
+ghost use Prim.Native.Nat.{_+_, _≤_};
+ghost use Rattle.claim_months.specs.Exposure.{monthB};
+ghost use Rattle.claim_months.specs.Span.{spanOf, spanIn};
+ghost use Rattle.claim_months.specs.Private.{closedOf, laterOf, fromOf, toOf, closingOf, lastUOf, lastCategoryOf, OfClaim, SoundWindow, SpanFor};
+use crate::CheckedClaim;
 use crate::Claim;
 use crate::ClaimMonth;
-use crate::Duration;
+use crate::MaybeChecked;
 use crate::MaybeSpan;
+use crate::MonthDay;
+use crate::MonthWindow;
 use crate::Span;
 use crate::Thirtieths;
-use crate::check::check;
-use crate::check::claim_category;
-use crate::check::day;
-use crate::check::first_duration;
+use crate::Window;
+use crate::check::checked;
 use crate::month::claim_month;
+use crate::windows::is_sound;
+use crate::windows::with_months;
+use basics::Duration;
+use basics::refusal;
 use calendar::Day;
 
-// Check 1, of a window as two day numbers.
-fn window_sound(first: u32, last: u32) -> bool
-    ensures { λ r. ⌜ r ≡ windowSound first last ⌝ }
-{
-    if first > 54786 {
-        return false;
-    }
-    if last > 54786 {
-        return false;
-    }
-    first <= last
-}
-
-// The number of the first of the checks 1 to 5 that fails, or 0.
-fn exposure_check(claim: Claim, first: u32, last: u32) -> u8
-    ensures { λ r. ⌜ r ≡ exposureCheck claim first last ⌝ }
-{
-    if !window_sound(first, last) {
-        return 1;
-    }
-    check(claim)
-}
-
 // Whether the claim is closed in the window.
-fn closed_in(claim: Claim, first: u32, last: u32) -> bool
-    requires { ⌜ claimCheck claim ≡ 0 ⌝ }
-    ensures { λ r. ⌜ r ≡ closedIn claim first last ⌝ }
+fn closed_in(claim: CheckedClaim, window: MonthWindow) -> bool
+    ensures { λ r. ⌜ r ≡ closedOf claim (window .first .day .0) (window .last .day .0) ⌝ }
 {
-    if claim.status != 1 {
+    if !claim.closed {
         return false;
     }
-    let termination = day(claim.termination);
-    if termination < first {
+    if claim.termination.day.0 < window.first.day.0 {
         return false;
     }
-    termination <= last
+    claim.termination.day.0 <= window.last.day.0
+}
+
+// The later of two days.
+pub(crate) fn later(one: MonthDay, other: MonthDay) -> MonthDay
+    ensures { λ r. ⌜ r ≡ laterOf one other ⌝ }
+{
+    if one.day.0 < other.day.0 {
+        return other;
+    }
+    one
 }
 
 // f, the first exposed day.
-pub(crate) fn exposed_from(claim: Claim, first: u32) -> u32
-    requires { ⌜ claimCheck claim ≡ 0 ⌝ }
-    ensures { λ r. ⌜ r ≡ exposedFrom claim first ⌝ }
+pub(crate) fn exposed_from(claim: CheckedClaim, first: MonthDay) -> MonthDay
+    ensures { λ r. ⌜ r ≡ fromOf claim first ⌝ }
 {
-    let bcd = day(claim.bcd);
-    if bcd < first {
-        return first;
-    }
-    bcd
+    later(claim.bcd, first)
 }
 
 // l, the last exposed day.
-pub(crate) fn exposed_to(claim: Claim, last: u32) -> u32
-    requires { ⌜ claimCheck claim ≡ 0 ⌝ }
-    ensures { λ r. ⌜ r ≡ exposedTo claim last ⌝ }
+pub(crate) fn exposed_to(claim: CheckedClaim, last: MonthDay) -> MonthDay
+    ensures { λ r. ⌜ r ≡ toOf claim last ⌝ }
 {
-    if claim.status != 1 {
+    if !claim.closed {
         return last;
     }
-    let termination = day(claim.termination);
-    if termination < last {
-        return termination;
+    if claim.termination.day.0 < last.day.0 {
+        return claim.termination;
     }
     last
 }
 
 // B of a claim month that ends on the window's first day or later.
-fn month_b(first: u32, month: ClaimMonth) -> u32
-    requires { ⌜ first ≤ month .last ⌝ }
-    requires { ⌜ month .last ≤ month .first + 30 ⌝ }
-    ensures { λ r. ⌜ r ≡ monthB first (month .first) (month .last) ⌝ }
+fn month_b(first: Day, month: ClaimMonth) -> Thirtieths
+    requires { ⌜ first .0 ≤ month .last .0 ⌝ }
+    requires { ⌜ month .last .0 ≤ month .first .0 + 30 ⌝ }
+    ensures { λ r. ⌜ r .0 ≡ monthB (first .0) (month .first .0) (month .last .0) ⌝ }
 {
-    if first <= month.first {
-        return 0;
+    if first.0 <= month.first.0 {
+        return Thirtieths(0);
     }
-    30 - (month.last - first + 1)
+    Thirtieths(30 - (month.last.0 - first.0 + 1))
 }
 
 // U of the closing month.
-fn closing_u(claim: Claim, month: ClaimMonth) -> u32
-    requires { ⌜ claimCheck claim ≡ 0 ⌝ }
-    requires { ⌜ isClosed claim ≡ true ⌝ }
-    requires { ⌜ month .first ≤ terminationDay claim ⌝ }
-    requires { ⌜ terminationDay claim ≤ month .last ⌝ }
-    requires { ⌜ month .last ≤ month .first + 30 ⌝ }
-    ensures { λ r. ⌜ r ≡ closingU claim (month .first) (month .last) ⌝ }
+fn closing_u(claim: CheckedClaim, month: ClaimMonth) -> Thirtieths
+    requires { ⌜ month .first .0 ≤ claim .termination .day .0 ⌝ }
+    requires { ⌜ claim .termination .day .0 ≤ month .last .0 ⌝ }
+    requires { ⌜ month .last .0 ≤ month .first .0 + 30 ⌝ }
+    ensures { λ r. ⌜ r .0 ≡ closingOf claim (month .first .0) (month .last .0) ⌝ }
 {
-    let category = claim_category(claim);
-    if category == 1 {
-        return 30;
+    if claim.category == 1 {
+        return Thirtieths(30);
     }
-    if category == 2 {
-        return 30;
+    if claim.category == 2 {
+        return Thirtieths(30);
     }
-    let termination = day(claim.termination);
-    if claim.termination.day >= 27 {
-        return 30 - (month.last - termination);
+    let termination = claim.termination.day.0;
+    if claim.late {
+        return Thirtieths(30 - (month.last.0 - termination));
     }
-    let days = termination - month.first + 1;
+    let days = termination - month.first.0 + 1;
     if days < 30 {
-        return days;
+        return Thirtieths(days);
     }
-    30
+    Thirtieths(30)
 }
 
-// U of the month that holds l, of a claim with a month there.
-fn last_u(claim: Claim, first: u32, last: u32, month: ClaimMonth) -> u32
-    requires { ⌜ claimCheck claim ≡ 0 ⌝ }
-    requires { ⌜ month .first ≤ exposedTo claim last ⌝ }
-    requires { ⌜ exposedTo claim last ≤ month .last ⌝ }
-    requires { ⌜ month .last ≤ month .first + 30 ⌝ }
-    requires { ⌜ first ≤ exposedTo claim last ⌝ }
-    ensures { λ r. ⌜ r ≡ monthU claim first last (month .first) (month .last) ⌝ }
+// U of the month that holds l.
+fn last_u(claim: CheckedClaim, window: MonthWindow, month: ClaimMonth) -> Thirtieths
+    requires { ⌜ month .first .0 ≤ toOf claim (window .last) .day .0 ⌝ }
+    requires { ⌜ toOf claim (window .last) .day .0 ≤ month .last .0 ⌝ }
+    requires { ⌜ month .last .0 ≤ month .first .0 + 30 ⌝ }
+    ensures { λ r. ⌜ r .0 ≡ lastUOf claim window (month .first .0) (month .last .0) ⌝ }
 {
-    if closed_in(claim, first, last) {
+    if closed_in(claim, window) {
         return closing_u(claim, month);
     }
-    30 - (month.last - exposed_to(claim, last))
+    Thirtieths(30 - (month.last.0 - exposed_to(claim, window.last).day.0))
 }
 
 // The category of the month that holds l.
-fn last_category(claim: Claim, first: u32, last: u32, month: ClaimMonth) -> u8
-    requires { ⌜ claimCheck claim ≡ 0 ⌝ }
-    requires { ⌜ month .first ≤ exposedTo claim last ⌝ }
-    requires { ⌜ exposedTo claim last ≤ month .last ⌝ }
-    ensures { λ r. ⌜ r ≡ closingCategory claim first last (month .first) (month .last) ⌝ }
+fn last_category(claim: CheckedClaim, window: MonthWindow) -> u8
+    ensures { λ r. ⌜ r ≡ lastCategoryOf claim window ⌝ }
 {
-    if closed_in(claim, first, last) {
-        return claim_category(claim);
+    if closed_in(claim, window) {
+        return claim.category;
     }
     0
 }
@@ -164,34 +138,37 @@ fn no_months() -> Span
     }
 }
 
-// The span of a sound claim's months in a sound window.
-pub(crate) fn sound_span(claim: Claim, first: u32, last: u32) -> Span
-    requires { ⌜ exposureCheck claim first last ≡ 0 ⌝ }
-    ensures { λ r. ⌜ r ≡ spanOf (monthRecords claim first last) ⌝ }
+// The span of a checked claim's months in a sound window.
+pub(crate) fn sound_span(claim: CheckedClaim, window: MonthWindow) -> Span
+    requires { ⌜ OfClaim claim ⌝ }
+    requires { ⌜ SoundWindow window ⌝ }
+    ensures { λ r. ⌜ SpanFor claim window r ⌝ }
 {
-    let from = exposed_from(claim, first);
-    let to = exposed_to(claim, last);
-    if to < from {
+    let from = exposed_from(claim, window.first);
+    let to = exposed_to(claim, window.last);
+    if to.day.0 < from.day.0 {
         return no_months();
     }
     let begin = claim_month(claim, from);
     let end = claim_month(claim, to);
     Span {
-        first: Duration(first_duration(claim) + begin.place),
+        first: Duration(claim.first.0 + begin.place),
         months: end.place - begin.place + 1,
-        before: Thirtieths(month_b(first, begin)),
-        through: Thirtieths(last_u(claim, first, last, end)),
-        category: last_category(claim, first, last, end),
+        before: month_b(window.first.day, begin),
+        through: last_u(claim, window, end),
+        category: last_category(claim, window),
     }
 }
 
 // The span of a claim's months in a window, or the number refused.
-pub fn span(claim: Claim, first: Day, last: Day) -> MaybeSpan
-    ensures { λ r. ⌜ r ≡ spanIn claim (first .0) (last .0) ⌝ }
+pub fn span(claim: Claim, window: Window) -> MaybeSpan
+    ensures { λ r. ⌜ r ≡ spanIn claim (window .first .0) (window .last .0) ⌝ }
 {
-    let refused = exposure_check(claim, first.0, last.0);
-    if refused != 0 {
-        return MaybeSpan::Refused(refused);
+    if !is_sound(window) {
+        return MaybeSpan::Refused(refusal::WINDOW);
     }
-    MaybeSpan::Spanned(sound_span(claim, first.0, last.0))
+    match checked(claim) {
+        MaybeChecked::Checked(sound) => MaybeSpan::Spanned(sound_span(sound, with_months(window))),
+        MaybeChecked::Refused(refused) => MaybeSpan::Refused(refused),
+    }
 }

@@ -3,8 +3,13 @@ pub mod check;
 pub mod exposure;
 pub mod listing;
 mod month;
+mod sound_claim;
+mod span_months;
+pub mod windows;
 
+use basics::Duration;
 use calendar::Date;
+use calendar::Day;
 
 // A claim, in the fields and widths of the claim file. Any bit pattern is a value.
 pub struct Claim {
@@ -18,10 +23,19 @@ pub struct Claim {
     pub cell: u8,
 }
 
-// A duration in months. A unit of its own.
-pub struct Duration(pub u32);
+// A window, as two day numbers, both included.
+pub struct Window {
+    pub first: Day,
+    pub last: Day,
+}
 
-// Thirtieths of a month. A unit of its own.
+// The window of two dates, or the number refused.
+pub enum MaybeWindow {
+    Known(Window),
+    Refused(u8),
+}
+
+// Thirtieths of a month, of U or of B. A unit of its own.
 pub struct Thirtieths(pub u32);
 
 // The month records of a claim in a window, as far as a study needs them: they have consecutive durations, and every one
@@ -51,19 +65,67 @@ pub enum Listed {
     Refused(u8),
 }
 
+// A day with the index of its calendar month, year × 12 + month − 1.
+struct MonthDay {
+    day: Day,
+    month: u32,
+}
+
+// A window whose days have their months.
+struct MonthWindow {
+    first: MonthDay,
+    last: MonthDay,
+}
+
+// The day numbers of a claim's dates: 0 for the termination of an open claim and for a missing maximum.
+struct ClaimDays {
+    disability: Day,
+    bcd: Day,
+    termination: Day,
+    maximum: Day,
+}
+
+// The day numbers, or none if check 2 fails.
+enum MaybeDays {
+    Days(ClaimDays),
+    NoDays,
+}
+
+// A claim that passed the checks 2 to 5, as far as its months of exposure need it.
+struct CheckedClaim {
+    bcd: MonthDay,
+    // Claim months start `offset` days after a calendar month's first day, or, if `backward`, before its last.
+    backward: bool,
+    offset: u32,
+    // The first duration.
+    first: Duration,
+    closed: bool,
+    // Zero of an open claim, as are the next two.
+    termination: MonthDay,
+    // The termination's day of month is 27 or later.
+    late: bool,
+    category: u8,
+}
+
+// A checked claim, or the number of the first check that failed.
+enum MaybeChecked {
+    Checked(CheckedClaim),
+    Refused(u8),
+}
+
 // A claim month by its place, 0 for the one that starts on BCD, with its first and last day.
-pub struct ClaimMonth {
-    pub place: u32,
-    pub first: u32,
-    pub last: u32,
+struct ClaimMonth {
+    place: u32,
+    first: Day,
+    last: Day,
 }
 
 // A month record of a listing, with thirtieths `upper` − `lower`.
 struct Row {
-    duration: u32,
-    first: u32,
-    last: u32,
-    upper: u32,
-    lower: u32,
+    duration: Duration,
+    first: MonthDay,
+    last: Day,
+    upper: Thirtieths,
+    lower: Thirtieths,
     category: u8,
 }

@@ -1,45 +1,35 @@
 // The listing of a claim's month records in a window.
 ghost use mathlib.Core.Path.{_≡_};
-ghost use mathlib.Core.Bool.{true};
-ghost use mathlib.Core.List.{_++_};
-ghost use Prim.Native.Nat.{_+_, _*_, _≤_, _<_, min, max};
+ghost use Prim.Native.Nat.{_+_, _-_, _*_, _≤_, _<_, min};
 ghost use lib.IntN.{pos, subℕ};
-ghost use lib.ListN.{length, drop};
+ghost use lib.ListN.{length};
 ghost use lib.Seq.{sets};
 ghost use denote.Ref.{now};
-ghost use Rattle.calendar.specs.Calendar.{isDate};
-ghost use Rattle.claim_months.specs.ClaimMonths.{bcdMonth};
-ghost use Rattle.claim_months.specs.Exposure.{monthRecords};
-ghost use Rattle.claim_months.specs.Span.{exposureCheck, spanOf, spanU, spanB};
-ghost use Rattle.claim_months.specs.Listing.{datesWindow, row, rows, listingOf, listAfter};
-ghost use Rattle.claim_months.specs.Helpers.{RowBounds, recordOf, spanCategory, spanRecord};
+ghost use Rattle.claim_months.specs.Listing.{row, listingOf, listAfter};
+ghost use Rattle.claim_months.specs.Private.{RowBounds, recordOf, spanCategory, spanRecord, laterOf, Placed, OfClaim, SoundWindow, SpanFor, RowsFor, ListedFor};
+use crate::CheckedClaim;
 use crate::Claim;
 use crate::Listed;
+use crate::MaybeChecked;
+use crate::MaybeWindow;
+use crate::MonthDay;
+use crate::MonthWindow;
 use crate::Row;
 use crate::Span;
-use crate::check::check;
-use crate::check::day;
+use crate::Thirtieths;
+use crate::check::checked;
 use crate::exposure::exposed_from;
 use crate::exposure::exposed_to;
+use crate::exposure::later;
 use crate::exposure::sound_span;
-use crate::month::bcd_month;
 use crate::month::claim_month;
-use crate::month::month_index;
 use crate::month::start_in;
+use crate::windows::window;
+use crate::windows::with_months;
+use basics::Duration;
+use basics::refusal;
 use calendar::Date;
-
-// Check 1, of a window as two dates.
-fn window_dates(first: Date, last: Date) -> bool
-    ensures { λ r. ⌜ r ≡ datesWindow first last ⌝ }
-{
-    if !calendar::is_date(first) {
-        return false;
-    }
-    if !calendar::is_date(last) {
-        return false;
-    }
-    day(first) <= day(last)
-}
+use calendar::Day;
 
 // A number below 2³¹ as a signed one.
 fn signed(number: u32) -> i32
@@ -50,53 +40,22 @@ fn signed(number: u32) -> i32
 }
 
 // U − B, which may be below 0.
-fn difference(upper: u32, lower: u32) -> i32
-    requires { ⌜ upper ≤ 30 ⌝ }
-    requires { ⌜ lower ≤ 30 ⌝ }
-    ensures { λ r. ⌜ r ≡ subℕ upper lower ⌝ }
+fn difference(upper: Thirtieths, lower: Thirtieths) -> i32
+    requires { ⌜ upper .0 ≤ 30 ⌝ }
+    requires { ⌜ lower .0 ≤ 30 ⌝ }
+    ensures { λ r. ⌜ r ≡ subℕ (upper .0) (lower .0) ⌝ }
 {
-    signed(upper) - signed(lower)
-}
-
-// The later of two days.
-fn later(one: u32, other: u32) -> u32
-    ensures { λ r. ⌜ r ≡ max one other ⌝ }
-{
-    if one < other {
-        return other;
-    }
-    one
+    signed(upper.0) - signed(lower.0)
 }
 
 // The earlier of two days.
-fn earlier(one: u32, other: u32) -> u32
-    ensures { λ r. ⌜ r ≡ min one other ⌝ }
+fn earlier(one: Day, other: Day) -> Day
+    ensures { λ r. ⌜ r .0 ≡ min (one .0) (other .0) ⌝ }
 {
-    if other < one {
+    if other.0 < one.0 {
         return other;
     }
     one
-}
-
-// U of a span's month, by its place from 0.
-fn upper(span: Span, place: u32) -> u32
-    requires { ⌜ place < span .months ⌝ }
-    ensures { λ r. ⌜ r ≡ spanU span place ⌝ }
-{
-    if place + 1 == span.months {
-        return span.through.0;
-    }
-    30
-}
-
-// B of a span's month.
-fn lower(span: Span, place: u32) -> u32
-    ensures { λ r. ⌜ r ≡ spanB span place ⌝ }
-{
-    if place == 0 {
-        return span.before.0;
-    }
-    0
 }
 
 // The category of a span's month.
@@ -110,23 +69,21 @@ fn month_category(span: Span, place: u32) -> u8
     0
 }
 
-// The record of a span's month, where `begin` is the place of the span's first claim month, and the days `from` to `to` are exposed.
-fn month_row(claim: Claim, span: Span, begin: u32, from: u32, to: u32, place: u32) -> Row
-    requires { ⌜ isDate (claim .bcd) ≡ true ⌝ }
+// The record of a span's month from `start` to the day before `next`, where the days `from` to `to` are exposed.
+fn month_row(span: Span, place: u32, start: MonthDay, next: Day, from: MonthDay, to: Day) -> Row
     requires { ⌜ span .first .0 ≤ 3626 ⌝ }
     requires { ⌜ place < span .months ⌝ }
-    requires { ⌜ bcdMonth claim + begin + place < 25200 ⌝ }
-    ensures { λ r. ⌜ recordOf r ≡ spanRecord claim span begin from to place ⌝ }
+    requires { ⌜ span .months ≤ 1800 ⌝ }
+    requires { ⌜ 1 ≤ next .0 ⌝ }
+    ensures { λ r. ⌜ r .first ≡ laterOf start from ⌝ }
+    ensures { λ r. ⌜ recordOf r ≡ spanRecord span place start (next .0) from (to .0) ⌝ }
 {
-    let index = bcd_month(claim) + begin + place;
-    let start = start_in(claim, index);
-    let next = start_in(claim, index + 1);
     Row {
-        duration: span.first.0 + place,
+        duration: Duration(span.first.0 + place),
         first: later(start, from),
-        last: earlier(next - 1, to),
-        upper: upper(span, place),
-        lower: lower(span, place),
+        last: earlier(Day(next.0 - 1), to),
+        upper: span.upper(place),
+        lower: span.lower(place),
         category: month_category(span, place),
     }
 }
@@ -135,32 +92,58 @@ fn month_row(claim: Claim, span: Span, begin: u32, from: u32, to: u32, place: u3
 fn put_row(list: &mut [i32], at: usize, month: Row)
     requires { ⌜ at + 6 ≤ length (now list) ⌝ }
     requires { ⌜ RowBounds (recordOf month) ⌝ }
+    requires { ⌜ Placed (month .first) ⌝ }
     ensures { λ _. ⌜ now (list .exit) ≡ sets (now (list .entry)) at (row (recordOf month)) ⌝ }
 {
-    list[at] = signed(month.duration);
-    list[at + 1] = signed(month.first);
-    list[at + 2] = signed(month.last);
+    list[at] = signed(month.duration.0);
+    list[at + 1] = signed(month.first.day.0);
+    list[at + 2] = signed(month.last.0);
     list[at + 3] = difference(month.upper, month.lower);
-    list[at + 4] = signed(month_index(month.first));
+    list[at + 4] = signed(month.first.month);
     list[at + 5] = signed(month.category as u32);
 }
 
 // Stores the month records of a window, of which `span` is the span, from the list's start on.
-fn put_rows(claim: Claim, first: u32, last: u32, span: Span, list: &mut [i32])
-    requires { ⌜ exposureCheck claim first last ≡ 0 ⌝ }
-    requires { ⌜ span ≡ spanOf (monthRecords claim first last) ⌝ }
+fn put_rows(claim: CheckedClaim, window: MonthWindow, span: Span, list: &mut [i32])
+    requires { ⌜ OfClaim claim ⌝ }
+    requires { ⌜ SoundWindow window ⌝ }
+    requires { ⌜ SpanFor claim window span ⌝ }
     requires { ⌜ 6 * span .months ≤ length (now list) ⌝ }
-    ensures { λ _. ⌜ now (list .exit) ≡ rows (monthRecords claim first last) ++ drop (6 * span .months) (now (list .entry)) ⌝ }
+    ensures { λ _. ⌜ RowsFor claim window (now (list .entry)) (now (list .exit)) ⌝ }
 {
-    let from = exposed_from(claim, first);
-    let to = exposed_to(claim, last);
-    let begin = claim_month(claim, from).place;
+    let from = exposed_from(claim, window.first);
+    let to = exposed_to(claim, window.last).day;
+    let begin = claim_month(claim, from);
+    let day = begin.first;
+    let mut start = MonthDay {
+        day,
+        month: claim.bcd.month + begin.place,
+    };
     let mut place: u32 = 0;
     while place < span.months {
-        let record = month_row(claim, span, begin, from, to, place);
+        let next = MonthDay {
+            day: start_in(claim, start.month + 1),
+            month: start.month + 1,
+        };
+        let record = month_row(span, place, start, next.day, from, to);
         put_row(list, 6 * place as usize, record);
+        start = next;
         place += 1;
     }
+}
+
+// The listing of a checked claim in a sound window.
+fn list_checked(claim: CheckedClaim, window: MonthWindow, list: &mut [i32]) -> Listed
+    requires { ⌜ OfClaim claim ⌝ }
+    requires { ⌜ SoundWindow window ⌝ }
+    ensures { λ r. ⌜ ListedFor claim window (now (list .entry)) (now (list .exit)) r ⌝ }
+{
+    let span = sound_span(claim, window);
+    if list.len() < 6 * span.months as usize {
+        return Listed::Refused(refusal::SHORT_LIST);
+    }
+    put_rows(claim, window, span, list);
+    Listed::Months(span.months)
 }
 
 // Lists the month records, six numbers each, and answers how many there are, or the number refused.
@@ -168,19 +151,11 @@ pub fn list_months(first: Date, last: Date, claim: Claim, list: &mut [i32]) -> L
     ensures { λ r. ⌜ r ≡ listingOf first last claim (length (now (list .entry))) ⌝ }
     ensures { λ r. ⌜ now (list .exit) ≡ listAfter first last claim (now (list .entry)) ⌝ }
 {
-    if !window_dates(first, last) {
-        return Listed::Refused(1);
+    let MaybeWindow::Known(days) = window(first, last) else {
+        return Listed::Refused(refusal::WINDOW);
+    };
+    match checked(claim) {
+        MaybeChecked::Checked(sound) => list_checked(sound, with_months(days), list),
+        MaybeChecked::Refused(refused) => Listed::Refused(refused),
     }
-    let refused = check(claim);
-    if refused != 0 {
-        return Listed::Refused(refused);
-    }
-    let from = day(first);
-    let to = day(last);
-    let span = sound_span(claim, from, to);
-    if list.len() < 6 * span.months as usize {
-        return Listed::Refused(10);
-    }
-    put_rows(claim, from, to, span, list);
-    Listed::Months(span.months)
 }

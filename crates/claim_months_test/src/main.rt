@@ -8,18 +8,17 @@ use calendar::MaybeDate;
 use calendar::MaybeDay;
 use claim_months::Claim;
 use claim_months::Listed;
-use libc::STDOUT_FILENO;
 use std::num::wrapping_add_u64;
 use std::num::wrapping_sub_u32;
+use test_support::dates::date;
+use test_support::lists::throughout;
+use test_support::numbers::bits_of_short;
+use test_support::print::put;
+use test_support::print::put_number;
+use test_support::print::put_signed;
 
 // What each place of the lent list holds before a listing.
 const BEFORE: i32 = -9999;
-
-// A sum of signed numbers: of those above 0, and of the others' sizes.
-struct Total {
-    above: u64,
-    below: u64,
-}
 
 fn main() {
     leap_days();
@@ -39,229 +38,224 @@ fn main() {
 }
 
 fn leap_days() {
-    spring(2000, open(date(2000, 2, 29), 90));
-    spring(2001, open(date(2001, 2, 29), 90));
+    in_spring(20000229);
+    in_spring(20010229);
 }
 
 // BCDs on the last days of January, in a year with 28 days in February and in one with 29.
 fn month_ends() {
-    spring(2011, open(date(2011, 1, 26), 90));
-    spring(2011, open(date(2011, 1, 27), 90));
-    spring(2011, open(date(2011, 1, 29), 90));
-    spring(2011, open(date(2011, 1, 30), 90));
-    spring(2011, open(date(2011, 1, 31), 90));
-    spring(2012, open(date(2012, 1, 29), 90));
-    spring(2012, open(date(2012, 1, 30), 90));
-    spring(2012, open(date(2012, 1, 31), 90));
-    spring(2012, open(date(2012, 2, 29), 90));
+    in_spring(20110126);
+    in_spring(20110127);
+    in_spring(20110129);
+    in_spring(20110130);
+    in_spring(20110131);
+    in_spring(20120129);
+    in_spring(20120130);
+    in_spring(20120131);
+    in_spring(20120229);
 }
 
 fn eliminations() {
-    spring(2010, open(date(2010, 4, 15), 14));
-    spring(2010, open(date(2010, 4, 15), 15));
-    spring(2010, open(date(2010, 4, 15), 44));
-    spring(2010, open(date(2010, 4, 15), 45));
-    spring(2010, open(date(2010, 4, 15), 90));
-    spring(2010, open(date(2010, 4, 15), 180));
+    spring(2010, open(20100415, 14));
+    spring(2010, open(20100415, 15));
+    spring(2010, open(20100415, 44));
+    spring(2010, open(20100415, 45));
+    spring(2010, open(20100415, 90));
+    spring(2010, open(20100415, 180));
 }
 
 fn long_claims() {
-    nine_years(open(date(2008, 1, 10), 90));
-    nine_years(closed(date(2008, 1, 10), date(2012, 5, 20), 3));
-    nine_years(closed(date(2008, 1, 10), date(2012, 3, 29), 3));
-    nine_years(open(date(2008, 6, 28), 90));
+    nine_years(open(20080110, 90));
+    nine_years(closed(20080110, 20120520, 3));
+    nine_years(closed(20080110, 20120329, 3));
+    nine_years(open(20080628, 90));
 }
 
 // A settlement in the first claim month, whole and cut the day before.
 fn cut_months() {
-    let claim = closed(date(2011, 2, 10), date(2011, 2, 16), 3);
+    let claim = closed(20110210, 20110216, 3);
     nine_years(claim);
-    show(date(2009, 1, 1), date(2011, 2, 15), claim);
-    show(date(2011, 2, 16), date(2017, 12, 31), claim);
+    show(20090101, 20110215, claim);
+    show(20110216, 20171231, claim);
 }
 
 // A recovery 45 and 46 days before and after the maximum date; the other codes.
 fn reclassed() {
-    recovered(date(2012, 5, 25));
-    recovered(date(2012, 5, 26));
-    recovered(date(2012, 2, 25));
-    recovered(date(2012, 2, 24));
-    spring(2012, closed(date(2011, 2, 5), date(2012, 4, 10), 2));
-    spring(2012, closed(date(2011, 2, 5), date(2012, 4, 10), 4));
-    spring(2012, closed(date(2011, 2, 5), date(2012, 4, 10), 5));
+    recovered(20120525);
+    recovered(20120526);
+    recovered(20120225);
+    recovered(20120224);
+    spring(2012, closed(20110205, 20120410, 2));
+    spring(2012, closed(20110205, 20120410, 4));
+    spring(2012, closed(20110205, 20120410, 5));
 }
 
 // Claim months that end in January 2100, and the first that can be.
 fn first_and_last_months() {
-    let first = date(2099, 10, 1);
-    let last = date(2099, 12, 31);
-    show(first, last, open(date(2098, 3, 15), 90));
-    show(first, last, open(date(2098, 3, 30), 90));
+    let first = 20991001;
+    let last = 20991231;
+    show(first, last, open(20980315, 90));
+    show(first, last, open(20980330, 90));
     show(first, last, closed(last, last, 2));
-    show(
-        date(1950, 1, 1),
-        date(1950, 3, 31),
-        open(date(1950, 1, 16), 15),
-    );
+    show(19500101, 19500331, open(19500116, 15));
 }
 
 // Windows of one day; a window before the claim, and one after it.
 fn windows() {
-    let claim = closed(date(2011, 2, 10), date(2011, 8, 20), 3);
-    show(date(2011, 5, 9), date(2011, 5, 9), claim);
-    show(date(2011, 5, 10), date(2011, 5, 10), claim);
-    show(date(2011, 2, 10), date(2011, 2, 10), claim);
-    show(date(2011, 1, 1), date(2011, 2, 9), claim);
-    show(date(2011, 8, 21), date(2011, 12, 31), claim);
+    let claim = closed(20110210, 20110820, 3);
+    show(20110509, 20110509, claim);
+    show(20110510, 20110510, claim);
+    show(20110210, 20110210, claim);
+    show(20110101, 20110209, claim);
+    show(20110821, 20111231, claim);
 }
 
 // Closings on a window's first and last day and the day after it; on BCD, on the 31st day of a claim month and from day 27 on.
 fn closings() {
-    let settled = closed(date(2011, 2, 10), date(2011, 8, 20), 3);
-    show(date(2011, 8, 20), date(2011, 12, 31), settled);
-    show(date(2011, 6, 1), date(2011, 8, 20), settled);
-    show(date(2011, 6, 1), date(2011, 8, 19), settled);
-    nine_years(closed(date(2011, 7, 5), date(2011, 7, 5), 1));
-    nine_years(closed(date(2011, 7, 5), date(2011, 8, 4), 3));
-    nine_years(closed(date(2011, 7, 5), date(2011, 7, 26), 5));
-    nine_years(closed(date(2011, 7, 5), date(2011, 7, 27), 5));
+    let settled = closed(20110210, 20110820, 3);
+    show(20110820, 20111231, settled);
+    show(20110601, 20110820, settled);
+    show(20110601, 20110819, settled);
+    nine_years(closed(20110705, 20110705, 1));
+    nine_years(closed(20110705, 20110804, 3));
+    nine_years(closed(20110705, 20110726, 5));
+    nine_years(closed(20110705, 20110727, 5));
 }
 
 fn bad_windows() {
-    let claim = open(date(2011, 2, 10), 90);
-    show(date(2011, 2, 29), date(2011, 12, 31), claim);
-    show(date(2011, 1, 1), date(2100, 1, 1), claim);
-    show(date(2011, 5, 2), date(2011, 5, 1), claim);
-    show(
-        date(2011, 5, 2),
-        date(2011, 5, 1),
-        open(date(2011, 2, 30), 90),
-    );
+    let claim = open(20110210, 90);
+    show(20110229, 20111231, claim);
+    show(20110101, 21000101, claim);
+    show(20110502, 20110501, claim);
+    show(20110502, 20110501, open(20110230, 90));
 }
 
 fn bad_dates() {
-    let bcd = date(2011, 2, 10);
-    let day = date(2010, 11, 12);
-    let end = date(2011, 8, 20);
-    spring(
-        2011,
-        claim(date(2010, 0, 1), bcd, missing(), missing(), 0, 0),
-    );
-    spring(
-        2011,
-        claim(day, date(2011, 2, 29), missing(), missing(), 0, 0),
-    );
-    spring(2011, claim(day, bcd, date(2011, 9, 31), missing(), 1, 3));
-    spring(2011, claim(day, bcd, missing(), missing(), 1, 3));
-    spring(2011, claim(day, bcd, end, date(2012, 13, 1), 1, 3));
-    spring(2011, claim(day, bcd, end, date(0, 0, 1), 2, 3));
+    let bcd = 20110210;
+    let day = date(20101112);
+    let end = 20110820;
+    spring(2011, claim(date(20100001), bcd, 0, 0, 0, 0));
+    spring(2011, claim(day, 20110229, 0, 0, 0, 0));
+    spring(2011, claim(day, bcd, 20110931, 0, 1, 3));
+    spring(2011, claim(day, bcd, 0, 0, 1, 3));
+    spring(2011, claim(day, bcd, end, 20121301, 1, 3));
+    spring(2011, claim(day, bcd, end, 1, 2, 3));
 }
 
 fn bad_statuses() {
-    let bcd = date(2011, 2, 10);
-    let day = date(2010, 11, 12);
-    let end = date(2011, 8, 20);
-    spring(2011, claim(day, bcd, missing(), missing(), 2, 0));
-    spring(2011, claim(day, bcd, missing(), missing(), 0, 1));
-    spring(2011, claim(day, bcd, end, missing(), 0, 0));
-    spring(2011, claim(day, bcd, end, missing(), 1, 0));
-    spring(2011, claim(day, bcd, end, missing(), 1, 6));
+    let bcd = 20110210;
+    let day = date(20101112);
+    let end = 20110820;
+    spring(2011, claim(day, bcd, 0, 0, 2, 0));
+    spring(2011, claim(day, bcd, 0, 0, 0, 1));
+    spring(2011, claim(day, bcd, end, 0, 0, 0));
+    spring(2011, claim(day, bcd, end, 0, 1, 0));
+    spring(2011, claim(day, bcd, end, 0, 1, 6));
 }
 
 fn bad_sequences() {
-    let bcd = date(2011, 2, 10);
-    let day = date(2010, 11, 12);
-    spring(
-        2011,
-        claim(date(2011, 2, 11), bcd, missing(), missing(), 0, 0),
-    );
-    spring(2011, claim(day, bcd, date(2011, 2, 9), missing(), 1, 1));
-    spring(2011, claim(bcd, bcd, missing(), missing(), 0, 0));
+    let bcd = 20110210;
+    let day = date(20101112);
+    spring(2011, claim(date(20110211), bcd, 0, 0, 0, 0));
+    spring(2011, claim(day, bcd, 20110209, 0, 1, 1));
+    spring(2011, claim(date(bcd), bcd, 0, 0, 0, 0));
 }
 
 // Lists with room for just the records, for one number fewer, and for no record.
 fn lists() {
-    let first = date(2011, 1, 1);
-    let last = date(2011, 4, 30);
-    let claim = open(date(2011, 1, 29), 90);
+    let first = date(20110101);
+    let last = date(20110430);
+    let claim = open(20110129, 90);
     show_in(24, first, last, claim);
     show_in(23, first, last, claim);
     show_in(0, first, last, claim);
-    show_in(0, first, date(2011, 1, 28), claim);
-    show_in(5, first, last, open(date(2011, 1, 29), 14));
+    show_in(0, first, date(20110128), claim);
+    show_in(5, first, last, open(20110129, 14));
 }
 
 // A claim of EP 90, recovered on 2012-04-10, with a maximum date.
-fn recovered(maximum: Date) {
-    let bcd = date(2011, 2, 5);
-    let end = date(2012, 4, 10);
-    spring(2012, claim(days_before(bcd, 90), bcd, end, maximum, 1, 1));
+fn recovered(maximum: u32) {
+    let disability = days_before(20110205, 90);
+    spring(2012, claim(disability, 20110205, 20120410, maximum, 1, 1));
 }
 
 // An open claim with an elimination period in days.
-fn open(bcd: Date, ep: u32) -> Claim {
-    claim(days_before(bcd, ep), bcd, missing(), missing(), 0, 0)
+fn open(bcd: u32, ep: u32) -> Claim {
+    claim(days_before(bcd, ep), bcd, 0, 0, 0, 0)
 }
 
 // A closed claim of EP 90.
-fn closed(bcd: Date, termination: Date, code: u8) -> Claim {
-    claim(days_before(bcd, 90), bcd, termination, missing(), 1, code)
+fn closed(bcd: u32, termination: u32, code: u8) -> Claim {
+    claim(days_before(bcd, 90), bcd, termination, 0, 1, code)
 }
 
 fn claim(
     disability: Date,
-    bcd: Date,
-    termination: Date,
-    maximum: Date,
+    bcd: u32,
+    termination: u32,
+    maximum: u32,
     status: u8,
     code: u8,
 ) -> Claim {
     Claim {
         number: 1,
         disability,
-        bcd,
-        termination,
-        maximum,
+        bcd: date(bcd),
+        termination: date(termination),
+        maximum: date(maximum),
         status,
         code,
         cell: 0,
     }
 }
 
-fn date(year: u16, month: u8, day: u8) -> Date {
-    Date { year, month, day }
-}
-
-fn missing() -> Date {
-    date(0, 0, 0)
-}
-
 // The date some days before a date; missing, of what is no date.
-fn days_before(day: Date, days: u32) -> Date {
-    match calendar::day_number(day) {
-        MaybeDay::Known(number) => date_at(wrapping_sub_u32(number.0, days)),
-        MaybeDay::NoDay => missing(),
+fn days_before(day: u32, days: u32) -> Date {
+    match calendar::day_number(date(day)) {
+        MaybeDay::Known(number) => date_at(wrapping_sub_u32(number.0, days) as u64),
+        MaybeDay::NoDay => date(0),
     }
 }
 
-fn date_at(number: u32) -> Date {
-    match calendar::date_of_day(Day(number)) {
-        MaybeDate::Found(day) => day,
-        MaybeDate::NoDate => missing(),
+// The date of a day number; missing, of what is none.
+fn date_at(number: u64) -> Date {
+    if number > 4294967295 {
+        return date(0);
     }
+    match calendar::date_of_day(Day(number as u32)) {
+        MaybeDate::Found(day) => day,
+        MaybeDate::NoDate => date(0),
+    }
+}
+
+// Shows an open claim of EP 90 in the spring of its BCD's year.
+fn in_spring(bcd: u32) {
+    let claim = open(bcd, 90);
+    let day = claim.bcd;
+    spring(day.year, claim);
 }
 
 // Shows a claim in the first four months of a year.
 fn spring(year: u16, claim: Claim) {
-    show(date(year, 1, 1), date(year, 4, 30), claim);
+    let first = Date {
+        year,
+        month: 1,
+        day: 1,
+    };
+    let last = Date {
+        year,
+        month: 4,
+        day: 30,
+    };
+    show_in(660, first, last, claim);
 }
 
 fn nine_years(claim: Claim) {
-    show(date(2009, 1, 1), date(2017, 12, 31), claim);
+    show(20090101, 20171231, claim);
 }
 
-fn show(first: Date, last: Date, claim: Claim) {
-    show_in(660, first, last, claim);
+fn show(first: u32, last: u32, claim: Claim) {
+    show_in(660, date(first), date(last), claim);
 }
 
 // Shows a claim in a window, listed into so many numbers.
@@ -299,22 +293,22 @@ fn answer(first: Date, last: Date, claim: Claim, list: &mut [i32]) {
             let total = put_rows(list, months);
             put_number(months as u64);
             put(b" months, ");
-            put_total(total);
+            put_signed(total);
             put(b" thirtieths, list past them");
-            put_change(unchanged(list, 6 * months as usize));
+            put_change(throughout(list, 6 * months as usize, BEFORE));
         }
         Listed::Refused(number) => {
             put(b"refused ");
             put_number(number as u64);
             put(b", list");
-            put_change(unchanged(list, 0));
+            put_change(throughout(list, 0, BEFORE));
         }
     }
 }
 
-// Puts the records, one to a line, and answers the sum of their thirtieths.
-fn put_rows(list: &[i32], months: u32) -> Total {
-    let mut total = Total { above: 0, below: 0 };
+// Puts the records, one to a line, and answers the bits of the sum of their thirtieths.
+fn put_rows(list: &[i32], months: u32) -> u64 {
+    let mut total = 0;
     let mut place: u32 = 0;
     while place < months {
         let at = 6 * place as usize;
@@ -322,7 +316,7 @@ fn put_rows(list: &[i32], months: u32) -> Total {
             return total;
         }
         put_row(list, at);
-        total = added(total, list[at + 3]);
+        total = wrapping_add_u64(total, bits_of_short(list[at + 3]));
         place += 1;
     }
     total
@@ -332,30 +326,18 @@ fn put_row(list: &[i32], at: usize)
     requires { ⌜ at + 6 ≤ length (now list) ⌝ }
 {
     put(b"  ");
-    put_signed(list[at]);
+    put_short(list[at]);
     put(b": ");
     put_day(list[at + 1]);
     put(b" to ");
     put_day(list[at + 2]);
     put(b", ");
-    put_signed(list[at + 3]);
+    put_short(list[at + 3]);
     put(b" thirtieths, month ");
-    put_signed(list[at + 4]);
+    put_short(list[at + 4]);
     put(b", category ");
-    put_signed(list[at + 5]);
+    put_short(list[at + 5]);
     put(b"\n");
-}
-
-// Whether the list from a place on is as it was.
-fn unchanged(list: &[i32], from: usize) -> bool {
-    let mut i = from;
-    while i < list.len() {
-        if list[i] != BEFORE {
-            return false;
-        }
-        i += 1;
-    }
-    true
 }
 
 fn put_change(same: bool) {
@@ -366,45 +348,12 @@ fn put_change(same: bool) {
     put(b" changed\n");
 }
 
-fn added(total: Total, number: i32) -> Total {
-    if number < 0 {
-        return Total {
-            above: total.above,
-            below: wrapping_add_u64(total.below, size(number) as u64),
-        };
-    }
-    Total {
-        above: wrapping_add_u64(total.above, size(number) as u64),
-        below: total.below,
-    }
-}
-
-fn put_total(total: Total) {
-    if total.above < total.below {
-        put(b"-");
-        put_number(total.below - total.above);
-        return;
-    }
-    put_number(total.above - total.below);
-}
-
-// A number without its sign.
-fn size(number: i32) -> u32 {
-    if number < 0 {
-        return (0 - number as i64) as u32;
-    }
-    number as u32
-}
-
-fn put_signed(number: i32) {
-    if number < 0 {
-        put(b"-");
-    }
-    put_number(size(number) as u64);
+fn put_short(number: i32) {
+    put_signed(bits_of_short(number));
 }
 
 fn put_day(number: i32) {
-    put_date(date_at(size(number)));
+    put_date(date_at(bits_of_short(number)));
 }
 
 fn put_date(date: Date) {
@@ -421,12 +370,4 @@ fn put_two(number: u8) {
         put(b"0");
     }
     put_number(number as u64);
-}
-
-fn put(text: &[u8]) {
-    io::write_all(STDOUT_FILENO, text);
-}
-
-fn put_number(number: u64) {
-    io::print_decimal(STDOUT_FILENO, number);
 }

@@ -3,9 +3,9 @@ use Prim.Native.Nat.{ℕ}
 use mathlib.Core.Path.{_≡_}
 use mathlib.Core.List.{List}
 use lib.IntN.{pos}
-use Rattle.claim_months.proofs.Figures.{ClaimFigures}
+use Rattle.claim_months.specs.ClaimFigures.{ClaimFigures}
 use Rattle.valuation.specs.Factor.{credibility, margin}
-use Rattle.valuation.specs.Reserve.{monthRate, factor, reserveIn}
+use Rattle.valuation.specs.Reserve.{monthRate, reserveOf, reserveIn}
 use Rattle.valuation.specs.declared.Reserve.the-variants.{Factor}
 use Rattle.valuation.proofs.ReserveFigures.{half, figure, table, even}
 
@@ -20,5 +20,5 @@ pub record DocumentFigures : Type 0 where
   pub m-1000 : margin 2 1000 ≡ 95143
   -- ◆ g 500,000 throughout, V 0.5, N 2: factor 0.3125. For every table that gives this g, and the call's answer for one of them
   pub half-throughout : (rates : List ℕ) (cell first : ℕ) (t : List ℕ) → ((n : ℕ) → monthRate rates cell first t n ≡ 500000)
-      → factor rates cell first t 2 half ≡ figure
+      → reserveOf rates cell first t 2 half ≡ figure
   pub half-answer : reserveIn table 0 4 even 2 half ≡ Factor figure

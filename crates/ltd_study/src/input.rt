@@ -11,12 +11,6 @@ struct Filled {
     failed: bool,
 }
 
-// A file run, and whether a further block is due.
-struct Step {
-    run: FileRun,
-    goes_on: bool,
-}
-
 // One read; no bytes at the end of the input, and none where it failed.
 fn read_some(fd: i32, bytes: &mut [u8]) -> Filled
     ensures { λ r. ⌜ r .count ≤ length (now (bytes .entry)) ⌝ }
@@ -118,40 +112,30 @@ fn feed_bytes(run: FileRun, rates: &[u32], block: &[u8; 512], count: usize) -> F
     run.feed(rates, &bytes[0..count])
 }
 
-// Reads a block of standard input and feeds it to the run. A failed read must not look like the end of the file, so it counts
-// as a part block.
-fn next_block(run: FileRun, rates: &[u32]) -> Step {
-    let mut block = [0u8; 512];
-    let filled = fill_block(STDIN_FILENO, &mut block);
+// How many bytes of a block are fed. A failed read must not look like the end of the file, so it counts as a part block.
+fn fed_count(filled: Filled) -> usize
+    requires { ⌜ filled .count ≤ 512 ⌝ }
+    ensures { λ r. ⌜ r ≤ 512 ⌝ }
+{
     if filled.failed {
-        return Step {
-            run: feed_bytes(run, rates, &block, 1),
-            goes_on: false,
-        };
+        return 1;
     }
-    let count = filled.count;
-    let after = feed_bytes(run, rates, &block, count);
-    if after.refused != 0 {
-        return Step {
-            run: after,
-            goes_on: false,
-        };
-    }
-    Step {
-        run: after,
-        goes_on: count == 512,
-    }
+    filled.count
 }
 
-// The file run of standard input. A proved loop has to end, and nothing says that the input does: the loop counts its turns
-// down, from a number that no run uses up.
+// The file run of standard input, block by block. A proved loop has to end, and nothing says that the input does: the loop counts its
+// turns down, from a number that no run uses up. One run is kept: a second one would be a copy on the stack.
 fn run_input(rates: &[u32]) -> FileRun {
     let mut run = FileRun::start();
+    let mut block = [0u8; 512];
     let mut turns = u64::MAX;
     while turns > 0 {
-        let step = next_block(run, rates);
-        run = step.run;
-        if !step.goes_on {
+        let count = fed_count(fill_block(STDIN_FILENO, &mut block));
+        run = feed_bytes(run, rates, &block, count);
+        if run.refused != 0 {
+            break;
+        }
+        if count != 512 {
             break;
         }
         turns -= 1;

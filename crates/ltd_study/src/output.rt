@@ -1,12 +1,12 @@
 // Printing: the table of a study's groups, or where its file was refused.
-ghost use Prim.Native.Nat.{_≤_, _<_};
+ghost use Prim.Native.Nat.{_≤_};
 ghost use denote.Ref.{now};
 ghost use lib.ListN.{length};
 use claim_file::FileRun;
 use libc::STDOUT_FILENO;
-use study::Study;
+use study::Sums;
 use valuation::MaybeFactor;
-use valuation::sums::sums_factor;
+use valuation::study_factor::study_factor;
 
 // One write; no bytes where it failed.
 fn write_some(bytes: &[u8]) -> usize
@@ -59,20 +59,6 @@ fn print_sum(sum: i64) {
     print_number(size_of(sum));
 }
 
-// The closing counts of the group at a place.
-fn closings_at(closings: [u32; 25], place: usize) -> [u32; 5]
-    requires { ⌜ place < 5 ⌝ }
-{
-    let from = 5 * place;
-    [
-        closings[from],
-        closings[from + 1],
-        closings[from + 2],
-        closings[from + 3],
-        closings[from + 4],
-    ]
-}
-
 fn print_closings(closings: [u32; 5]) {
     print_count(closings[0] as u64);
     print_count(closings[1] as u64);
@@ -81,39 +67,33 @@ fn print_closings(closings: [u32; 5]) {
     print_count(closings[4] as u64);
 }
 
-fn print_factor(group: u8, closings: [u32; 5], recoveries: i64, deaths: i64) {
-    match sums_factor(group, closings, recoveries, deaths) {
+fn print_factor(sums: Sums, group: u8) {
+    match study_factor(sums, group) {
         MaybeFactor::Known(factor) => print_count(factor.t),
         MaybeFactor::Refused(number) => {}
     }
 }
 
-// The line of the group at a place, 0 to 4.
-fn print_group(study: Study, place: usize)
-    requires { ⌜ place < 5 ⌝ }
-{
-    let thirtieths = study.thirtieths;
-    let counts = study.closings;
-    let recoveries = study.recoveries;
-    let deaths = study.deaths;
-    let closings = closings_at(counts, place);
-    let group = place as u8 + 1;
+// The line of a group, 1 to 5.
+fn print_group(sums: Sums, group: u8) {
+    let figures = sums.group(group);
+    let closings = figures.closings;
     print_number(group as u64);
-    print_sum(thirtieths[place]);
+    print_sum(figures.thirtieths);
     print_closings(closings);
-    print_sum(recoveries[place]);
-    print_sum(deaths[place]);
-    print_factor(group, closings, recoveries[place], deaths[place]);
+    print_sum(figures.recoveries);
+    print_sum(figures.deaths);
+    print_factor(sums, group);
     print_bytes(b"\n");
 }
 
-fn print_study(study: Study) {
+fn print_sums(sums: Sums) {
     print_bytes(b"group exposure rec dea set max lim exprec expdea T\n");
-    print_group(study, 0);
-    print_group(study, 1);
-    print_group(study, 2);
-    print_group(study, 3);
-    print_group(study, 4);
+    print_group(sums, 1);
+    print_group(sums, 2);
+    print_group(sums, 3);
+    print_group(sums, 4);
+    print_group(sums, 5);
 }
 
 fn print_refusal(number: u8, block: u32, place: u8) {
@@ -132,5 +112,7 @@ pub fn print_run(run: FileRun) {
         print_refusal(run.refused, run.block, run.place);
         return;
     }
-    print_study(run.study);
+    let study = run.study;
+    let sums = study.sums;
+    print_sums(sums);
 }

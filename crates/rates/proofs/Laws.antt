@@ -10,8 +10,10 @@ use native.Mathlib.Omega.{arith}
 use borrow.Author.Tests.{leb-true}
 use lib.ListN.{getD}
 use lib.Dec.{leb, ltb}
-use Rattle.calendar.specs.Calendar.{pick}
-use Rattle.calendar.proofs.Tests.{and-left, and-right}
+use Rattle.basics.specs.Pick.{pick}
+use Rattle.basics.specs.Checks.{check}
+use Rattle.basics.proofs.Checks.{check-passed, then-passed}
+use Rattle.basics.proofs.Tests.{and-left, and-right}
 use Rattle.rates.specs.Rates.{place, recoveryRate, deathRate, tableSound, ratesSoundTo, ratesSound, cells, rateCheck, groupOf}
 
 -- recovery and death rate of a cell together
@@ -29,12 +31,13 @@ sound-at rates cell (suc m) k e h =
     (λ (l : k < m). sound-at rates cell m k (and-left (ratesSoundTo rates cell m) _ e) l)
     (eq-or-lt-of-le (le-of-suc-le-suc h))
 
--- a check that found nothing leaves its last test true
-last-passed : (t u v : Bool) → _≡_ {A = ℕ} (pick t (pick u (pick v 0 8) 7) 6) 0 → v ≡ true
-last-passed true true true e = refl
-last-passed true true false e = absurd (omega arith)
-last-passed true false v e = absurd (omega arith)
-last-passed false u v e = absurd (omega arith)
+-- what passing the checks 6 to 8 says of the last of them
+last-passed : (rates : List ℕ) (cell : ℕ) → rateCheck rates cell ≡ 0 → ratesSound rates cell ≡ true
+unfolding rateCheck
+last-passed rates cell e =
+    let p = then-passed (check (tableSound rates) 6) _ e in
+    let q = then-passed (check (ltb cell (cells rates)) 7) _ (p .1) in
+    check-passed (ratesSound rates cell) 8 (omega arith) (q .1)
 
 -- every duration has the place of one of the 479 that the check looks at
 place-again : (d : ℕ) → place (place d + 2) ≡ place d
@@ -47,11 +50,11 @@ place-below d = omega arith
 
 module _ (rates : List ℕ) (cell d : ℕ) (passed : rateCheck rates cell ≡ 0) where
   pub rates-bound : recoveryRate rates cell d + deathRate rates cell d ≤ 1000000
-  unfolding rateCheck ratesSound recoveryRate deathRate
+  unfolding ratesSound recoveryRate deathRate
   rates-bound =
       subst (λ (p : ℕ). getD rates (cell * 958 + p) 0 + getD rates (cell * 958 + 479 + p) 0 ≤ 1000000) (place-again d)
       (sound-at rates cell 479 (place d)
-      (last-passed (tableSound rates) (ltb cell (cells rates)) (ratesSound rates cell) passed) (place-below d))
+      (last-passed rates cell passed) (place-below d))
 
   pub recovery-bound : recoveryRate rates cell d ≤ 1000000
   recovery-bound = omega (arith, rates-bound)

@@ -5,7 +5,8 @@ use mathlib.Core.Bool.{Bool, true, _&&_}
 use mathlib.Core.List.{List}
 use lib.ListN.{length, getD}
 use lib.Dec.{leb, ltb, eqb}
-use Rattle.calendar.specs.Calendar.{pick}
+use Rattle.basics.specs.Pick.{pick}
+use Rattle.basics.specs.Checks.{check, _then_, refuse-rate-table, refuse-cell, refuse-rate}
 
 -- the number of cells of a table
 unfoldable pub cells : List ℕ → ℕ
@@ -38,7 +39,10 @@ ratesSound rates cell = ratesSoundTo rates cell 479
 
 -- the number of the first of the checks 6, 7 (cell not in the table) and 8 that fails, or 0
 unfoldable pub rateCheck : List ℕ → ℕ → ℕ
-rateCheck rates cell = pick (tableSound rates) (pick (ltb cell (cells rates)) (pick (ratesSound rates cell) 0 8) 7) 6
+rateCheck rates cell =
+    check (tableSound rates) refuse-rate-table
+    then check (ltb cell (cells rates)) refuse-cell
+    then check (ratesSound rates cell) refuse-rate
 
 -- The duration groups: 1 to 3 months; 4 to 24; 25 to 60; 61 to 120; above
 unfoldable pub groupOf : ℕ → ℕ

@@ -4,7 +4,8 @@ ghost use Prim.Native.Nat.{_+_, _*_};
 ghost use lib.ListN.{getD};
 ghost use denote.Ref.{now};
 ghost use Rattle.rates.specs.Rates.{place, rateCheck, ratesSound, recoveryRate, deathRate, groupOf};
-use claim_months::Duration;
+use basics::Duration;
+use basics::refusal;
 
 // The place of a duration among a cell's 479 rates of one kind.
 fn place_of(duration: Duration) -> usize
@@ -67,21 +68,21 @@ pub fn check(rates: &[u32], cell: u8) -> u8
 {
     let cells = rates.len() / 958;
     if rates.len() % 958 != 0 {
-        return 6;
+        return refusal::RATE_TABLE;
     }
     if cells < 1 {
-        return 6;
+        return refusal::RATE_TABLE;
     }
     if cells > 64 {
-        return 6;
+        return refusal::RATE_TABLE;
     }
     if cell as usize >= cells {
-        return 7;
+        return refusal::CELL;
     }
     if sound(rates, cell) {
         return 0;
     }
-    8
+    refusal::RATE
 }
 
 // The group of a duration, 1 to 5.

@@ -1,28 +1,21 @@
 // Prints what the rate table's checks, look-ups and groups answer at their edges.
 ghost use Prim.Native.Nat.{_<_};
-use claim_months::Duration;
-use libc::STDOUT_FILENO;
-
-fn put_word(word: &[u8]) {
-    io::write_all(STDOUT_FILENO, word);
-}
-
-fn put(n: u64) {
-    put_word(b" ");
-    io::print_decimal(STDOUT_FILENO, n);
-}
+use basics::Duration;
+use test_support::lists::counting;
+use test_support::print::put;
+use test_support::print::put_next;
 
 // A table's length, and its check with cell 0, 1, 63, 64 and 255.
 fn put_checks(table: &[u32]) {
-    put_word(b"length");
-    put(table.len() as u64);
-    put_word(b" checks");
-    put(rates::check(table, 0) as u64);
-    put(rates::check(table, 1) as u64);
-    put(rates::check(table, 63) as u64);
-    put(rates::check(table, 64) as u64);
-    put(rates::check(table, 255) as u64);
-    put_word(b"\n");
+    put(b"length");
+    put_next(table.len() as u64);
+    put(b" checks");
+    put_next(rates::check(table, 0) as u64);
+    put_next(rates::check(table, 1) as u64);
+    put_next(rates::check(table, 63) as u64);
+    put_next(rates::check(table, 64) as u64);
+    put_next(rates::check(table, 255) as u64);
+    put(b"\n");
 }
 
 // The checks of the first `count` numbers of a table.
@@ -46,11 +39,11 @@ fn put_lengths(table: &[u32; 62270]) {
 fn put_tables(place: usize, recovery: u32, death: u32)
     requires { ⌜ place < 61000 ⌝ }
 {
-    put_word(b"place");
-    put(place as u64);
-    put(recovery as u64);
-    put(death as u64);
-    put_word(b"\n");
+    put(b"place");
+    put_next(place as u64);
+    put_next(recovery as u64);
+    put_next(death as u64);
+    put(b"\n");
     let mut table = [0u32; 62270];
     table[place] = recovery;
     table[place + 479] = death;
@@ -59,14 +52,14 @@ fn put_tables(place: usize, recovery: u32, death: u32)
 
 // The recovery and the death rate of a cell at a duration.
 fn put_rates(table: &[u32], cell: u8, duration: u32) {
-    put(rates::recovery(table, cell, Duration(duration)) as u64);
-    put(rates::death(table, cell, Duration(duration)) as u64);
+    put_next(rates::recovery(table, cell, Duration(duration)) as u64);
+    put_next(rates::death(table, cell, Duration(duration)) as u64);
 }
 
 fn put_cell(table: &[u32], cell: u8) {
-    put_word(b"cell");
-    put(cell as u64);
-    put_word(b" rates");
+    put(b"cell");
+    put_next(cell as u64);
+    put(b" rates");
     put_rates(table, cell, 0);
     put_rates(table, cell, 1);
     put_rates(table, cell, 2);
@@ -74,38 +67,28 @@ fn put_cell(table: &[u32], cell: u8) {
     put_rates(table, cell, 480);
     put_rates(table, cell, 481);
     put_rates(table, cell, 4294967295);
-    put_word(b"\n");
-}
-
-// A table of two cells whose numbers count up from 1.
-fn counting() -> [u32; 1916] {
-    let mut table = [0u32; 1916];
-    let mut i: u32 = 0;
-    while i < 1916 {
-        table[i as usize] = i + 1;
-        i += 1;
-    }
-    table
+    put(b"\n");
 }
 
 fn put_group(duration: u32) {
-    put(rates::group(Duration(duration)) as u64);
+    put_next(rates::group(Duration(duration)) as u64);
+}
+
+// The groups of the last duration before a cut and of the first after it.
+fn put_cut(last: u32, first: u32) {
+    put_group(last);
+    put_group(first);
 }
 
 fn put_groups() {
-    put_word(b"groups");
-    put_group(0);
-    put_group(1);
-    put_group(3);
-    put_group(4);
-    put_group(24);
-    put_group(25);
-    put_group(60);
-    put_group(61);
-    put_group(120);
-    put_group(121);
+    put(b"groups");
+    put_cut(0, 1);
+    put_cut(3, 4);
+    put_cut(24, 25);
+    put_cut(60, 61);
+    put_cut(120, 121);
     put_group(4294967295);
-    put_word(b"\n");
+    put(b"\n");
 }
 
 fn main() {

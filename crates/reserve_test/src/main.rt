@@ -1,7 +1,10 @@
 // The reserve factor and the valuation rate at the edges of each check and between them. Each line has the number that varies,
 // or else a running number, and the answer. A factor is written as its bits.
-use claim_months::Duration;
+use basics::Duration;
 use libc::STDOUT_FILENO;
+use test_support::lists::filled;
+use test_support::print::put;
+use test_support::print::put_number;
 use valuation::MaybeRate;
 use valuation::Reserve;
 
@@ -10,13 +13,13 @@ const EVEN: [u64; 5] = [1000000, 1000000, 1000000, 1000000, 1000000];
 const UNEVEN: [u64; 5] = [500000, 800000, 1100000, 1300000, 900000];
 
 fn refused(number: u8) {
-    io::write_all(STDOUT_FILENO, b": refused ");
-    io::print_decimal(STDOUT_FILENO, number as u64);
+    put(b": refused ");
+    put_number(number as u64);
 }
 
 // The answer for a cell, first duration, five T, months and discount.
 fn factor(case: u64, rates: &[u32], cell: u8, first: u32, t: [u64; 5], months: u32, v: f64) {
-    io::print_decimal(STDOUT_FILENO, case);
+    put_number(case);
     let answer = valuation::reserve_factor::reserve_factor(
         rates,
         cell,
@@ -27,85 +30,92 @@ fn factor(case: u64, rates: &[u32], cell: u8, first: u32, t: [u64; 5], months: u
     );
     match answer {
         Reserve::Factor(x) => {
-            io::write_all(STDOUT_FILENO, b": factor ");
+            put(b": factor ");
             io::print_hex(STDOUT_FILENO, f64::to_bits(x), 16);
         }
         Reserve::Refused(n) => refused(n),
     }
-    io::write_all(STDOUT_FILENO, b"\n");
+    put(b"\n");
 }
 
 // The answer for a cell, T and duration.
 fn rate(case: u64, rates: &[u32], cell: u8, t: u64, duration: u32) {
-    io::print_decimal(STDOUT_FILENO, case);
+    put_number(case);
     let answer = valuation::rate::valuation_rate(rates, cell, t, Duration(duration));
     match answer {
         MaybeRate::Rate(g) => {
-            io::write_all(STDOUT_FILENO, b": rate ");
-            io::print_decimal(STDOUT_FILENO, g as u64);
+            put(b": rate ");
+            put_number(g as u64);
         }
         MaybeRate::Refused(n) => refused(n),
     }
-    io::write_all(STDOUT_FILENO, b"\n");
+    put(b"\n");
 }
 
 // Two cells; the rate at place i is 7,919 i modulo 20,011, so that no two neighbours are alike.
 fn table() -> [u32; 1916] {
-    let mut rates = [0u32; 1916];
-    let mut i: usize = 0;
-    while i < 1916 {
-        rates[i] = (i * 7919 % 20011) as u32;
-        i += 1;
-    }
-    rates
+    filled([0; 1916], 0, 1916, 0, 7919, 20011)
+}
+
+fn discount(case: u64, rates: &[u32], v: f64) {
+    factor(case, rates, 0, 4, EVEN, 24, v);
 }
 
 fn discounts(rates: &[u32]) {
-    io::write_all(STDOUT_FILENO, b"discount\n");
+    put(b"discount\n");
     let zero = 0.0f64;
-    factor(1, rates, 0, 4, EVEN, 24, zero / zero);
-    factor(2, rates, 0, 4, EVEN, 24, zero);
-    factor(3, rates, 0, 4, EVEN, 24, -zero);
-    factor(4, rates, 0, 4, EVEN, 24, -0.5);
-    factor(5, rates, 0, 4, EVEN, 24, 1.0 / zero);
-    factor(6, rates, 0, 4, EVEN, 24, -1.0 / zero);
-    factor(7, rates, 0, 4, EVEN, 24, 1.0);
-    factor(8, rates, 0, 4, EVEN, 24, 1.0000000000000002);
-    factor(9, rates, 0, 4, EVEN, 24, 0.9999999999999999);
-    factor(10, rates, 0, 4, EVEN, 24, 5e-324);
-    factor(11, rates, 0, 4, EVEN, 24, 1e-310);
-    factor(12, rates, 0, 4, EVEN, 24, 0.5);
-    factor(13, rates, 0, 4, EVEN, 24, 0.997);
+    discount(1, rates, zero / zero);
+    discount(2, rates, zero);
+    discount(3, rates, -zero);
+    discount(4, rates, -0.5);
+    discount(5, rates, 1.0 / zero);
+    discount(6, rates, -1.0 / zero);
+    discount(7, rates, 1.0);
+    discount(8, rates, 1.0000000000000002);
+    discount(9, rates, 0.9999999999999999);
+    discount(10, rates, 5e-324);
+    discount(11, rates, 1e-310);
+    discount(12, rates, 0.5);
+    discount(13, rates, 0.997);
+}
+
+fn of_months(months: u32, rates: &[u32]) {
+    factor(months as u64, rates, 1, 4, UNEVEN, months, 0.997);
 }
 
 fn lengths(rates: &[u32]) {
-    io::write_all(STDOUT_FILENO, b"months\n");
-    factor(0, rates, 1, 4, UNEVEN, 0, 0.997);
-    factor(1, rates, 1, 4, UNEVEN, 1, 0.997);
-    factor(2, rates, 1, 4, UNEVEN, 2, 0.997);
-    factor(479, rates, 1, 4, UNEVEN, 479, 0.997);
-    factor(480, rates, 1, 4, UNEVEN, 480, 0.997);
-    factor(481, rates, 1, 4, UNEVEN, 481, 0.997);
-    factor(4294967295, rates, 1, 4, UNEVEN, 4294967295, 0.997);
+    put(b"months\n");
+    of_months(0, rates);
+    of_months(1, rates);
+    of_months(2, rates);
+    of_months(479, rates);
+    of_months(480, rates);
+    of_months(481, rates);
+    of_months(4294967295, rates);
+}
+
+// Three months from a duration on.
+fn from_duration(rates: &[u32], first: u32) {
+    factor(first as u64, rates, 0, first, UNEVEN, 3, 0.997);
 }
 
 fn durations(rates: &[u32]) {
-    io::write_all(STDOUT_FILENO, b"first duration\n");
-    factor(0, rates, 0, 0, UNEVEN, 3, 0.997);
-    factor(1, rates, 0, 1, UNEVEN, 3, 0.997);
-    factor(2, rates, 0, 2, UNEVEN, 3, 0.997);
-    factor(3, rates, 0, 3, UNEVEN, 3, 0.997);
-    factor(23, rates, 0, 23, UNEVEN, 3, 0.997);
-    factor(59, rates, 0, 59, UNEVEN, 3, 0.997);
-    factor(119, rates, 0, 119, UNEVEN, 3, 0.997);
+    put(b"first duration\n");
+    from_duration(rates, 0);
+    from_duration(rates, 1);
+    from_duration(rates, 2);
+    from_duration(rates, 3);
+    from_duration(rates, 23);
+    from_duration(rates, 59);
+    from_duration(rates, 119);
     factor(478, rates, 0, 478, UNEVEN, 5, 0.997);
-    factor(480, rates, 0, 480, UNEVEN, 3, 0.997);
-    factor(481, rates, 0, 481, UNEVEN, 3, 0.997);
-    factor(4294967295, rates, 0, 4294967295, UNEVEN, 3, 0.997);
+    from_duration(rates, 480);
+    from_duration(rates, 481);
+    from_duration(rates, 4294967295);
 }
 
 fn improvements(rates: &[u32]) {
-    io::write_all(STDOUT_FILENO, b"T\n");
+    put(b"T\n");
     factor(0, rates, 0, 2, [0; 5], 480, 0.997);
     factor(1000000, rates, 0, 2, EVEN, 480, 0.997);
     factor(
@@ -125,7 +135,7 @@ fn improvements(rates: &[u32]) {
 }
 
 fn rate_durations(rates: &[u32]) {
-    io::write_all(STDOUT_FILENO, b"duration\n");
+    put(b"duration\n");
     rate(0, rates, 0, 1000000, 0);
     rate(1, rates, 0, 1000000, 1);
     rate(2, rates, 0, 1000000, 2);
@@ -144,7 +154,7 @@ fn part(rates: &[u32], n: usize, cell: u8) {
 
 // Tables that aren't one, and cells that aren't there.
 fn tables(rates: &[u32]) {
-    io::write_all(STDOUT_FILENO, b"rates\n");
+    put(b"rates\n");
     part(rates, 0, 0);
     part(rates, 957, 0);
     part(rates, 958, 0);
@@ -157,7 +167,7 @@ fn tables(rates: &[u32]) {
 
 // A call that fails several checks answers the first of them.
 fn order(rates: &[u32]) {
-    io::write_all(STDOUT_FILENO, b"first of several\n");
+    put(b"first of several\n");
     let short = [0u32; 957];
     factor(6, &short, 255, 1, EVEN, 481, 0.0);
     rate(6, &short, 255, 0, 1);
@@ -168,7 +178,7 @@ fn order(rates: &[u32]) {
 
 // Cell 1 has at duration 102 a recovery rate of 999,000 and the given death rate.
 fn heavy(table: [u32; 1916], death: u32) {
-    io::write_all(STDOUT_FILENO, b"cell of a heavy table\n");
+    put(b"cell of a heavy table\n");
     let mut rates = table;
     rates[1058] = 999000;
     rates[1537] = death;
@@ -181,7 +191,7 @@ fn heavy(table: [u32; 1916], death: u32) {
 
 // T × S about 10^12, and below 1,000,000.
 fn products(death: u32) {
-    io::write_all(STDOUT_FILENO, b"T of a death rate\n");
+    put(b"T of a death rate\n");
     let mut rates = [0u32; 958];
     rates[481] = death;
     rate(1, &rates, 0, 1, 4);
@@ -194,7 +204,7 @@ fn products(death: u32) {
 
 // The paper's figure, then 64 cells, which are a table, and 65, which are none.
 fn cells() {
-    io::write_all(STDOUT_FILENO, b"cells\n");
+    put(b"cells\n");
     let halves = [250000u32; 958];
     factor(1, &halves, 0, 4, EVEN, 2, 0.5);
     let most = [0u32; 61312];

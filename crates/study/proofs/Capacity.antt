@@ -1,66 +1,48 @@
 -- Check 9 doesn't fire under 500,000 accepted claims: each claim adds at most 54,000 thirtieths, 54,000,000,000 expected and one closing.
 -- Assumes nothing.
 use Prim.Native.Nat.{ℕ, zero, suc, _+_, _-_, _*_, _/_, _%_, _≤_, _<_}
-use mathlib.Core.Path.{_≡_, refl, sym, ap, ap₂, _∙_}
+use mathlib.Core.Path.{_≡_, refl, sym, ap, ap₂, _∙_, subst}
 use mathlib.Core.Bool.{Bool, true, false, _&&_}
 use mathlib.Core.List.{List, [], _∷_}
-use lib.ListN.{length}
+use lib.ListN.{length, getD}
 use lib.Dec.{leb, ltb, eqb}
 use lib.IntN.{ℤ, pos, natAbs, _+ℤ_}
-use native.Mathlib.Nat.{mul-suc, mul-le-mul}
-use borrow.Author.Tests.{lt-ltb, ltb-true, eqb-true}
-use Rattle.calendar.specs.Calendar.{pick}
-use Rattle.calendar.proofs.Tests.{tests, by, and-left, and-right}
+use native.Mathlib.Nat.{mul-add, mul-le-mul, mul-le-mul-left}
+use borrow.Author.Tests.{lt-ltb, ltb-true}
+use Rattle.basics.specs.Pick.{pick}
+use Rattle.basics.specs.Tables.{table, allWithin, allAtMost}
+use Rattle.basics.proofs.Tests.{tests, by, and-left, and-right}
+use Rattle.basics.proofs.Checks.{then-passed}
+use Rattle.basics.proofs.Integers.{size-sum}
+use Rattle.basics.proofs.Tables.{table-length, table-at, within-list, at-most-list}
 use Rattle.claim_months.specs.declared.Claim.{Claim}
+use Rattle.claim_months.specs.declared.Window.{Window}
 use Rattle.claim_months.specs.Claim.{claimCheck, category}
 use Rattle.claim_months.specs.Exposure.{monthRecords, closedIn, closings}
 use Rattle.claim_months.proofs.Sound.{Sound, sound}
-use Rattle.claim_months.proofs.Integers.{size-sum}
 use Rattle.claim_months.proofs.Ranges.{weighted-size}
 use Rattle.claim_months.proofs.Closing.{closings-value, closingDuration}
 use Rattle.rates.specs.Rates.{groupOf, recoveryRate, deathRate, rateCheck}
 use Rattle.rates.proofs.Laws.{recovery-bound, death-bound}
 use Rattle.study.specs.declared.Study.{Study}
-use Rattle.study.specs.Study.{allWithin, allAtMost, inGroup, exposure, closingCount, expectedRecoveries, expectedDeaths, sumOver, studyOf, hasRoom}
-use Rattle.study.specs.Demand3.{claimNumber}
-use Rattle.study.proofs.Tables.{within-table, at-most-table}
-use Rattle.study.proofs.SumOver.{All}
+use Rattle.study.specs.declared.Sums.{Sums}
+use Rattle.study.specs.Sums.{signedEach, each, none, plus, within}
+use Rattle.study.specs.Study.{inGroup, exposure, closingCount, expectedRecoveries, expectedDeaths, recordSums, shareOf, sumOver, studyOf, hasRoom}
+use Rattle.study.specs.Demand3.{ownRefusal}
+use Rattle.study.proofs.Algebra.{Shaped, signed-at, count-at}
+use Rattle.study.proofs.SumOver.{All, sums, good-sum}
 
 -- a claim that is accepted
 abbrev pub Accepted : List ℕ → Claim → Type 0
-Accepted rates c = claimNumber rates c ≡ 0
-
-first-zero : (x y : ℕ) → pick (eqb x 0) y x ≡ 0 → (x ≡ 0) × (y ≡ 0)
-first-zero x y h =
-    by (eqb x 0) (λ t. pick t y x ≡ 0 → (x ≡ 0) × (y ≡ 0)) (λ q e. (eqb-true x 0 q, e)) (λ q e. absurd (omega tests)) h
+Accepted rates c = ownRefusal rates c ≡ 0
 
 pub accepted-sound : (rates : List ℕ) (c : Claim) → Accepted rates c → Sound c
-unfolding claimNumber
-accepted-sound rates c h = sound c (first-zero (claimCheck c) (rateCheck rates (c .cell)) h .0)
+unfolding ownRefusal
+accepted-sound rates c h = sound c (then-passed (claimCheck c) (rateCheck rates (c .cell)) h .0)
 
 pub accepted-rates : (rates : List ℕ) (c : Claim) → Accepted rates c → rateCheck rates (c .cell) ≡ 0
-unfolding claimNumber
-accepted-rates rates c h = first-zero (claimCheck c) (rateCheck rates (c .cell)) h .1
-
--- sizes of sums over claims
-sum-size : (P : Claim → Type 0) (f : Claim → ℤ) (m : ℕ) → ((c : Claim) → P c → natAbs (f c) ≤ m) → (cs : List Claim) → All P cs
-    → natAbs (sumOver _+ℤ_ (pos 0) f cs) ≤ m * length cs
-unfolding sumOver
-sum-size P f m h [] a = omega tests
-sum-size P f m h (c ∷ cs) a =
-    let i = sum-size P f m h cs (a .1) in
-    let s = size-sum (f c) (sumOver _+ℤ_ (pos 0) f cs) in
-    let x = mul-suc m (length cs) in
-    let y = h c (a .0) in
-    omega tests
-
-count-size : (P : Claim → Type 0) (f : Claim → ℕ) → ((c : Claim) → P c → f c ≤ 1) → (cs : List Claim) → All P cs → sumOver _+_ 0 f cs ≤ length cs
-unfolding sumOver
-count-size P f h [] a = omega tests
-count-size P f h (c ∷ cs) a =
-    let i = count-size P f h cs (a .1) in
-    let y = h c (a .0) in
-    omega tests
+unfolding ownRefusal
+accepted-rates rates c h = then-passed (claimCheck c) (rateCheck rates (c .cell)) h .1
 
 pub group-one : (g d : ℕ) → inGroup g d ≤ 1
 unfolding inGroup
@@ -95,46 +77,113 @@ closing-one rates c h b e g x =
     rw (closings-value c (accepted-sound rates c h) w b e)
     (by (closedIn c b e) (λ t. pick t (w (closingDuration c) (category c)) 0 ≤ 1) (λ q. m) (λ q. omega tests))
 
-all-five : (a b c d e : Bool) → a ≡ true → b ≡ true → c ≡ true → d ≡ true → e ≡ true → (a && b && c && d && e) ≡ true
-all-five a b c d e p q r s t = rw (p, q, r, s, t)
+-- what m accepted claims have at the most: 54,000 thirtieths, 54,000,000,000 expected and one closing each
+pub record Sized (m : ℕ) (s : Sums) : Type 0 where
+  pub thirtieths : (k : ℕ) → k < 5 → natAbs (getD (s .thirtieths) k (pos 0)) ≤ 54000 * m
+  pub closings : (k : ℕ) → k < 25 → getD (s .closings) k 0 ≤ m
+  pub recoveries : (k : ℕ) → k < 5 → natAbs (getD (s .recoveries) k (pos 0)) ≤ 54000000000 * m
+  pub deaths : (k : ℕ) → k < 5 → natAbs (getD (s .deaths) k (pos 0)) ≤ 54000000000 * m
+
+entry : (n m : ℕ) (f : ℕ → ℤ) → ((k : ℕ) → natAbs (f k) ≤ m) → (k : ℕ) → k < n → natAbs (getD (table n f) k (pos 0)) ≤ m * 1
+entry n m f h k l = let t = h k in rw (table-at n f k (pos 0) l) (omega tests)
+
+share-sized : (w : Window) (rates : List ℕ) (c : Claim) → Accepted rates c → Sized 1 (shareOf w rates c)
+unfolding shareOf recordSums
+share-sized w rates c ok =
+    let b = w .first .0 in
+    let e = w .last .0 in
+    record {
+      thirtieths = entry 5 54000 _ (λ k. exposure-size c b e (k + 1));
+      closings = λ k l. rw (table-at 25 (λ k. closingCount (k / 5 + 1) (k % 5 + 1) (monthRecords c b e)) k 0 l) (closing-one rates c ok b e (k / 5 + 1) (k % 5 + 1));
+      recoveries = entry 5 54000000000 _ (λ k. recoveries-size rates c ok b e (k + 1));
+      deaths = entry 5 54000000000 _ (λ k. deaths-size rates c ok b e (k + 1));
+    }
+
+none-sized : Sized 0 none
+unfolding none
+none-sized =
+    let z : (k n : ℕ) → k < 5 → natAbs (getD (table 5 (λ g. pos 0)) k (pos 0)) ≤ n * 0 = λ k n l. rw (table-at 5 (λ g. pos 0) k (pos 0) l) (omega tests) in
+    record {
+      thirtieths = λ k l. z k 54000 l;
+      closings = λ k l. rw (table-at {A = ℕ} 25 (λ g. 0) k 0 l) (omega tests);
+      recoveries = λ k l. z k 54000000000 l;
+      deaths = λ k l. z k 54000000000 l;
+    }
+
+plus-sized : (m n : ℕ) (a b : Sums) → Sized m a → Sized n b → Sized (m + n) (plus a b)
+unfolding each
+plus-sized m n a b p q =
+    let z : (u : ℕ) (xs ys : List ℤ) → ((k : ℕ) → k < 5 → natAbs (getD xs k (pos 0)) ≤ u * m) → ((k : ℕ) → k < 5 → natAbs (getD ys k (pos 0)) ≤ u * n)
+    → (k : ℕ) → k < 5 → natAbs (getD (signedEach _+ℤ_ xs ys) k (pos 0)) ≤ u * (m + n) =
+    λ u xs ys f g k l.
+    let s = size-sum (getD xs k (pos 0)) (getD ys k (pos 0)) in
+    let x = f k l in
+    let y = g k l in
+    rw (signed-at _+ℤ_ xs ys k l, mul-add u m n) (omega tests) in
+    record {
+      thirtieths = z 54000 _ _ (p .thirtieths) (q .thirtieths);
+      closings = λ k l. let x = p .closings k l in let y = q .closings k l in rw (count-at _+_ (a .closings) (b .closings) k l) (omega tests);
+      recoveries = z 54000000000 _ _ (p .recoveries) (q .recoveries);
+      deaths = z 54000000000 _ _ (p .deaths) (q .deaths);
+    }
+
+pub sums-sized : (w : Window) (rates : List ℕ) (cs : List Claim) → All (Accepted rates) cs → Sized (length cs) (sumOver plus none (shareOf w rates) cs)
+unfolding sumOver
+sums-sized w rates [] a = none-sized
+sums-sized w rates (c ∷ cs) a =
+    let e : 1 + length cs ≡ suc (length cs) = omega tests in
+    subst (λ (m : ℕ). Sized m (plus (shareOf w rates c) (sumOver plus none (shareOf w rates) cs))) e
+    (plus-sized 1 (length cs) _ _ (share-sized w rates c (a .0)) (sums-sized w rates cs (a .1)))
+
+-- what is sized for 500,000 claims is within the bounds of refusal 9
+sized-within : (m : ℕ) (s : Sums) → m ≤ 500000 → Shaped s → Sized m s → within 1 s ≡ true
+unfolding within
+sized-within m s h q z =
+    let f : (u n : ℕ) (xs : List ℤ) → u * 500000 ≤ n → length xs ≡ 5 → ((k : ℕ) → k < 5 → natAbs (getD xs k (pos 0)) ≤ u * m) → allWithin n xs ≡ true =
+    λ u n xs un e g. within-list n xs (λ k l. let t = g k (omega (tests, e)) in let v = mul-le-mul-left u h in omega tests) in
+    all-four _ _ _ _ (f 54000 27000000000 _ (omega tests) (q .thirtieths) (z .thirtieths)) (f 54000000000 27000000000000000 _ (omega tests) (q .recoveries) (z .recoveries))
+    (f 54000000000 27000000000000000 _ (omega tests) (q .deaths) (z .deaths))
+    (at-most-list 500000 (s .closings) (λ k l. let t = z .closings k (omega (tests, q .closings)) in omega tests))
+  where
+    all-four : (a b c d : Bool) → a ≡ true → b ≡ true → c ≡ true → d ≡ true → (a && b && c && d) ≡ true
+    all-four a b c d p q r s = rw (p, q, r, s)
+
+pub share-shaped : (w : Window) (rates : List ℕ) (c : Claim) → Shaped (shareOf w rates c)
+unfolding shareOf recordSums
+share-shaped w rates c = record { thirtieths = table-length 5 _; closings = table-length 25 _; recoveries = table-length 5 _; deaths = table-length 5 _ }
+
+pub sums-shaped : (w : Window) (rates : List ℕ) (cs : List Claim) → Shaped (sumOver plus none (shareOf w rates) cs)
+sums-shaped w rates cs = good-sum plus none Shaped sums rates (shareOf w rates) (share-shaped w rates) cs
 
 -- a study of fewer than 500,000 accepted claims has room
-pub room : (b e : ℕ) (rates : List ℕ) (cs : List Claim) → All (Accepted rates) cs → length cs < 500000 → hasRoom (studyOf b e rates cs) ≡ true
+pub room : (w : Window) (rates : List ℕ) (cs : List Claim) → All (Accepted rates) cs → length cs < 500000 → hasRoom (studyOf w rates cs) ≡ true
 unfolding hasRoom studyOf
-room b e rates cs a h =
-    all-five _ _ _ _ _ (lt-ltb (length cs) 500000 h)
-    (within-table 27000000000 5 _
-    (λ k. let s = sum-size (Accepted rates) (λ c. exposure (k + 1) (monthRecords c b e)) 54000 (λ c q. exposure-size c b e (k + 1)) cs a in omega tests))
-    (within-table 27000000000000000 5 _
-    (λ k. let s = sum-size (Accepted rates) (λ c. expectedRecoveries rates (c .cell) (k + 1) (monthRecords c b e)) 54000000000 (λ c q. recoveries-size rates c q b e (k + 1)) cs a in omega tests))
-    (within-table 27000000000000000 5 _
-    (λ k. let s = sum-size (Accepted rates) (λ c. expectedDeaths rates (c .cell) (k + 1) (monthRecords c b e)) 54000000000 (λ c q. deaths-size rates c q b e (k + 1)) cs a in omega tests))
-    (at-most-table 500000 25 _
-    (λ k. let s = count-size (Accepted rates) (λ c. closingCount (k / 5 + 1) (k % 5 + 1) (monthRecords c b e)) (λ c q. closing-one rates c q b e (k / 5 + 1) (k % 5 + 1)) cs a in omega tests))
+room w rates cs a h =
+    rw (lt-ltb (length cs) 500000 h, sized-within (length cs) _ (omega tests) (sums-shaped w rates cs) (sums-sized w rates cs a))
 
 -- what check 9 passing says
 pub record HasRoom (s : Study) : Type 0 where
   pub taken : s .taken < 500000
-  pub thirtieths : allWithin 27000000000 (s .thirtieths) ≡ true
-  pub recoveries : allWithin 27000000000000000 (s .recoveries) ≡ true
-  pub deaths : allWithin 27000000000000000 (s .deaths) ≡ true
-  pub closings : allAtMost 500000 (s .closings) ≡ true
+  pub thirtieths : allWithin 27000000000 (s .sums .thirtieths) ≡ true
+  pub recoveries : allWithin 27000000000000000 (s .sums .recoveries) ≡ true
+  pub deaths : allWithin 27000000000000000 (s .sums .deaths) ≡ true
+  pub closings : allAtMost 500000 (s .sums .closings) ≡ true
 
 pub has-room : (s : Study) → hasRoom s ≡ true → HasRoom s
-unfolding hasRoom
+unfolding hasRoom within
 has-room s h =
     let a = ltb (s .taken) 500000 in
-    let b = allWithin 27000000000 (s .thirtieths) in
-    let c = allWithin 27000000000000000 (s .recoveries) in
-    let d = allWithin 27000000000000000 (s .deaths) in
-    let e = allAtMost 500000 (s .closings) in
-    let h4 = and-left (a && b && c && d) e h in
-    let h3 = and-left (a && b && c) d h4 in
-    let h2 = and-left (a && b) c h3 in
+    let b = allWithin 27000000000 (s .sums .thirtieths) in
+    let c = allWithin 27000000000000000 (s .sums .recoveries) in
+    let d = allWithin 27000000000000000 (s .sums .deaths) in
+    let e = allAtMost 500000 (s .sums .closings) in
+    let w = and-right a (b && c && d && e) h in
+    let w3 = and-left (b && c && d) e w in
+    let w2 = and-left (b && c) d w3 in
     record {
-      taken = ltb-true (s .taken) 500000 (and-left a b h2);
-      thirtieths = and-right a b h2;
-      recoveries = and-right (a && b) c h3;
-      deaths = and-right (a && b && c) d h4;
-      closings = and-right (a && b && c && d) e h;
+      taken = ltb-true (s .taken) 500000 (and-left a (b && c && d && e) h);
+      thirtieths = and-left b c w2;
+      recoveries = and-right b c w2;
+      deaths = and-right (b && c) d w3;
+      closings = and-right (b && c && d) e w;
     }

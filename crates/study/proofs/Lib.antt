@@ -1,11 +1,11 @@
--- `Tables`: lists of groups by their places. `Signed`, `Months`: a span's months added one by one. `WithSpan`: adding a span is adding its
--- month records. `SumOver`: sums over claims in any order. `Capacity`: check 9 never fires under 500,000 claims. `Built`: a run's study
+-- `Algebra`: the algebra of sums. `SumOver`: sums over claims in any order. `Places`: where a closing is counted. `ShareMonths`: a span's share month by
+-- month. `WithSpan`: adding a span is adding its month records. `Capacity`: check 9 never fires under 500,000 claims. `Built`: a run's study
 -- is that of its accepted claims. `Totals`: studies over parts total. `Demand3`: the theorem.
-pub mod Tables
-mod Signed
-mod Months
+pub mod Algebra
 pub mod SumOver
+mod Places
 pub mod Capacity
+mod ShareMonths
 pub mod Built
 pub mod WithSpan
 pub mod Totals

@@ -1,82 +1,62 @@
 -- The studies of a list of accepted claims over the parts of a window total that of the undivided window.
 -- Assumes nothing.
 use Prim.Native.Nat.{ℕ, _+_, _*_, _/_, _%_, _≤_, _<_}
-use mathlib.Core.Path.{_≡_, refl, sym, ap, _∙_, fun-ext}
-use mathlib.Core.List.{List, [], _∷_}
+use mathlib.Core.Path.{_≡_, refl, sym, ap, _∙_}
+use mathlib.Core.List.{List}
 use lib.ListN.{getD}
-use lib.Dec.{ltb, eqb}
+use lib.Dec.{eqb}
 use lib.IntN.{ℤ, pos, _+ℤ_}
-use Rattle.calendar.specs.Calendar.{pick}
-use Rattle.calendar.proofs.Tests.{tests, by}
+use Rattle.basics.specs.Pick.{pick}
+use Rattle.basics.specs.Tables.{table}
+use Rattle.basics.proofs.Tables.{table-length, table-at}
 use Rattle.claim_months.specs.declared.Claim.{Claim}
+use Rattle.claim_months.specs.declared.Window.{Window}
 use Rattle.claim_months.specs.Exposure.{monthRecords}
-use Rattle.claim_months.specs.Windows.{Window, Parts, total, EveryPart}
-use Rattle.claim_months.proofs.Parts.{every-map, total-same, parts-total}
+use Rattle.claim_months.specs.Windows.{total, EveryPart}
+use Rattle.claim_months.proofs.Parts.{SoundParts, total-same, parts-total}
 use Rattle.claim_months.proofs.Additive.{cut-weighted}
 use Rattle.claim_months.proofs.Closing.{cut-closings}
 use Rattle.rates.specs.Rates.{recoveryRate, deathRate}
-use Rattle.study.specs.declared.Study.{Study}
-use Rattle.study.specs.Study.{inGroup, table, exposure, closingCount, expectedRecoveries, expectedDeaths, sumOver, studyOf}
-use Rattle.study.specs.Demand3.{SumsTotal}
-use Rattle.study.proofs.Tables.{table-at, table-past}
-use Rattle.study.proofs.SumOver.{All, Commutes, signed-sums, counts, sum-same, total-sums}
+use Rattle.study.specs.declared.Sums.{Sums}
+use Rattle.study.specs.Sums.{signedEach, countEach, each, none, plus}
+use Rattle.study.specs.Study.{inGroup, exposure, closingCount, expectedRecoveries, expectedDeaths, recordSums, shareOf, sumOver, studyOf}
+use Rattle.study.proofs.Algebra.{Shaped, signed-is, count-is, sums-same}
+use Rattle.study.proofs.SumOver.{All, sums, sum-same, total-sums}
 use Rattle.study.proofs.Capacity.{Accepted, accepted-sound}
 
--- what a claim adds to a table's entry adds up over parts
-module _ {R : Type 0} (win : R → Window) {A : Type 0} (add : A → A → A) (none : A) (laws : Commutes add none) where
-  total-none : (r : R) (rs : List R) → total add (λ q. none) r rs ≡ none
-  unfolding total
-  total-none r [] = refl
-  total-none r (q ∷ rs) = laws .left _ ∙ total-none q rs
+abbrev window : ℕ → ℕ → Window
+window b e = record { first = record { 0 = b }; last = record { 0 = e } }
 
-  table-total : (n k : ℕ) (f : ℕ → Claim → ℕ → ℕ → A) (P : Claim → Type 0)
-      → ((c : Claim) → P c → (b m e : ℕ) → b ≤ m → m < e → add (f k c b m) (f k c (m + 1) e) ≡ f k c b e)
-      → (cs : List Claim) → All P cs → (b e : ℕ) (r : R) (rs : List R) → Parts win b e r rs
-      → total add (λ q. getD (table n (λ j. sumOver add none (λ c. f j c (win q .first) (win q .last)) cs)) k none) r rs
-      ≡ getD (table n (λ j. sumOver add none (λ c. f j c b e) cs)) k none
-  table-total n k f P cut cs a b e r rs p =
-      by (ltb k n)
-      (λ _. total add (λ q. getD (table n (λ j. sumOver add none (λ c. f j c (win q .first) (win q .last)) cs)) k none) r rs
-      ≡ getD (table n (λ j. sumOver add none (λ c. f j c b e) cs)) k none)
-      (λ y.
-      let l : k < n = omega tests in
-      ap (λ (g : R → A). total add g r rs) (fun-ext (λ q. table-at n (λ j. sumOver add none (λ c. f j c (win q .first) (win q .last)) cs) k none l))
-      ∙ total-sums add none laws (λ c q. f k c (win q .first) (win q .last)) cs r rs
-      ∙ sum-same add none laws P _ _ (λ c ok. parts-total win add (f k c) (cut c ok) b e r rs p) cs a
-      ∙ sym (table-at n (λ j. sumOver add none (λ c. f j c b e) cs) k none l))
-      (λ y.
-      let l : n ≤ k = omega tests in
-      ap (λ (g : R → A). total add g r rs) (fun-ext (λ q. table-past n (λ j. sumOver add none (λ c. f j c (win q .first) (win q .last)) cs) k none l))
-      ∙ total-none r rs ∙ sym (table-past n (λ j. sumOver add none (λ c. f j c b e) cs) k none l))
+-- lists of sums that add up place by place
+signed-cut : (f g h : ℕ → ℤ) → ((k : ℕ) → f k +ℤ g k ≡ h k) → signedEach _+ℤ_ (table 5 f) (table 5 g) ≡ table 5 h
+signed-cut f g h e =
+    sym (signed-is _+ℤ_ (table 5 f) (table 5 g) (table 5 h) (table-length 5 h)
+    (λ k l. table-at 5 h k (pos 0) l ∙ sym (e k) ∙ sym (λ i. table-at 5 f k (pos 0) l i +ℤ table-at 5 g k (pos 0) l i)))
 
--- totals of studies that are the same on every part
-pub same-totals : {R : Type 0} (f g : R → Study) (s t : Study) (r : R) (rs : List R) → EveryPart (λ q. f q ≡ g q) r rs → s ≡ t → SumsTotal f s r rs → SumsTotal g t r rs
-same-totals f g s t r rs h e w =
-    record {
-      thirtieths = λ k. moved _+ℤ_ (λ (u : Study). getD (u .thirtieths) k (pos 0)) ∙ w .thirtieths k ∙ ap (λ (u : Study). getD (u .thirtieths) k (pos 0)) e;
-      closings = λ k. moved _+_ (λ (u : Study). getD (u .closings) k 0) ∙ w .closings k ∙ ap (λ (u : Study). getD (u .closings) k 0) e;
-      recoveries = λ k. moved _+ℤ_ (λ (u : Study). getD (u .recoveries) k (pos 0)) ∙ w .recoveries k ∙ ap (λ (u : Study). getD (u .recoveries) k (pos 0)) e;
-      deaths = λ k. moved _+ℤ_ (λ (u : Study). getD (u .deaths) k (pos 0)) ∙ w .deaths k ∙ ap (λ (u : Study). getD (u .deaths) k (pos 0)) e;
-    }
-  where
-    moved : {A : Type 0} (add : A → A → A) (entry : Study → A) → total add (λ q. entry (g q)) r rs ≡ total add (λ q. entry (f q)) r rs
-    moved add entry = sym (total-same add (λ q. entry (f q)) (λ q. entry (g q)) r rs (every-map _ _ (λ q p. ap entry p) r rs h))
+count-cut : (f g h : ℕ → ℕ) → ((k : ℕ) → f k + g k ≡ h k) → countEach _+_ (table 25 f) (table 25 g) ≡ table 25 h
+count-cut f g h e =
+    sym (count-is _+_ (table 25 f) (table 25 g) (table 25 h) (table-length 25 h)
+    (λ k l. table-at 25 h k 0 l ∙ sym (e k) ∙ sym (λ i. table-at 25 f k 0 l i + table-at 25 g k 0 l i)))
 
-pub studies-total : {R : Type 0} (win : R → Window) (rates : List ℕ) (cs : List Claim) → All (Accepted rates) cs
-    → (b e : ℕ) (r : R) (rs : List R) → Parts win b e r rs → SumsTotal (λ q. studyOf (win q .first) (win q .last) rates cs) (studyOf b e rates cs) r rs
-unfolding studyOf exposure closingCount expectedRecoveries expectedDeaths
-studies-total win rates cs a b e r rs p =
-    record {
-      thirtieths = λ k.
-          table-total win _+ℤ_ (pos 0) signed-sums 5 k (λ j c x y. exposure (j + 1) (monthRecords c x y)) (Accepted rates)
-          (λ c ok. cut-weighted c (accepted-sound rates c ok) (inGroup (k + 1))) cs a b e r rs p;
-      closings = λ k.
-          table-total win _+_ 0 counts 25 k (λ j c x y. closingCount (j / 5 + 1) (j % 5 + 1) (monthRecords c x y)) (Accepted rates)
-          (λ c ok. cut-closings c (accepted-sound rates c ok) (λ d y. inGroup (k / 5 + 1) d * pick (eqb y (k % 5 + 1)) 1 0)) cs a b e r rs p;
-      recoveries = λ k.
-          table-total win _+ℤ_ (pos 0) signed-sums 5 k (λ j c x y. expectedRecoveries rates (c .cell) (j + 1) (monthRecords c x y)) (Accepted rates)
-          (λ c ok. cut-weighted c (accepted-sound rates c ok) (λ d. inGroup (k + 1) d * recoveryRate rates (c .cell) d)) cs a b e r rs p;
-      deaths = λ k.
-          table-total win _+ℤ_ (pos 0) signed-sums 5 k (λ j c x y. expectedDeaths rates (c .cell) (j + 1) (monthRecords c x y)) (Accepted rates)
-          (λ c ok. cut-weighted c (accepted-sound rates c ok) (λ d. inGroup (k + 1) d * deathRate rates (c .cell) d)) cs a b e r rs p;
-    }
+-- a claim's shares over the two parts of a cut total its share of the undivided window
+cut-share : (rates : List ℕ) (c : Claim) → Accepted rates c → (b m e : ℕ) → b ≤ m → m < e
+    → plus (shareOf (window b m) rates c) (shareOf (window (m + 1) e) rates c) ≡ shareOf (window b e) rates c
+unfolding each shareOf recordSums exposure closingCount expectedRecoveries expectedDeaths
+cut-share rates c a b m e bm me =
+    let ok = accepted-sound rates c a in
+    sums-same _ _ (signed-cut _ _ _ (λ k. cut-weighted c ok (inGroup (k + 1)) b m e bm me))
+    (count-cut _ _ _ (λ k. cut-closings c ok (λ d y. inGroup (k / 5 + 1) d * pick (eqb y (k % 5 + 1)) 1 0) b m e bm me))
+    (signed-cut _ _ _ (λ k. cut-weighted c ok (λ d. inGroup (k + 1) d * recoveryRate rates (c .cell) d) b m e bm me))
+    (signed-cut _ _ _ (λ k. cut-weighted c ok (λ d. inGroup (k + 1) d * deathRate rates (c .cell) d) b m e bm me))
+
+module _ {R : Type 0} (win : R → Window) (rates : List ℕ) (cs : List Claim) (a : All (Accepted rates) cs) (b e : ℕ) (r : R) (rs : List R) (p : SoundParts win b e r rs) where
+  pub studies-total : total plus (λ q. studyOf (win q) rates cs .sums) r rs ≡ studyOf (window b e) rates cs .sums
+  unfolding studyOf
+  studies-total =
+      total-sums plus none Shaped sums (λ c q. shareOf (win q) rates c) cs r rs
+      ∙ sum-same plus none Shaped sums (Accepted rates) _ _
+      (λ c ok. parts-total win plus (λ x y. shareOf (window x y) rates c) (cut-share rates c ok) b e r rs p) cs a
+
+-- totals of sums that are the same on every part
+pub same-totals : {R : Type 0} (f g : R → Sums) (s t : Sums) (r : R) (rs : List R) → EveryPart (λ q. f q ≡ g q) r rs → s ≡ t → total plus f r rs ≡ s → total plus g r rs ≡ t
+same-totals f g s t r rs h e w = sym (total-same plus f g r rs h) ∙ w ∙ e

@@ -5,17 +5,20 @@ use Prim.Native.Nat.{ℕ, _+_, _≤_, _<_}
 use mathlib.Core.Path.{_≡_}
 use mathlib.Core.Bool.{Bool, true, false, _&&_}
 use mathlib.Core.List.{List, [], _∷_}
+use mathlib.Core.Logic.{_⊎_}
 use lib.ListN.{length, getD, set}
 use lib.Dec.{ltb, eqb}
-use lib.IntN.{ℤ, pos, _+ℤ_}
+use Rattle.basics.specs.Pick.{pick}
+use Rattle.basics.specs.Checks.{_then_}
 use Rattle.calendar.specs.declared.Date.{Date}
-use Rattle.calendar.specs.Calendar.{pick, dayNumber}
 use Rattle.claim_months.specs.declared.Claim.{Claim}
+use Rattle.claim_months.specs.declared.Window.{Window}
 use Rattle.claim_months.specs.Claim.{claimCheck}
 use Rattle.claim_months.specs.Exposure.{closedIn}
-use Rattle.claim_months.specs.Windows.{total, EveryPart, NoPart, ExactlyOnePart}
+use Rattle.claim_months.specs.Windows.{between, Parts, total, EveryPart, NoPart, ExactlyOnePart}
 use Rattle.rates.specs.Rates.{rateCheck}
 use Rattle.study.specs.declared.Study.{Study}
+use Rattle.study.specs.Sums.{plus}
 use Rattle.study.specs.Study.{studyOf, opened, added}
 
 -- One study of the list: the two dates that it is opened with, and the order in which it gets the places of the list
@@ -24,28 +27,26 @@ pub record StudyRun : Type 0 where
   pub last : Date
   pub order : List ℕ
 
+-- a run's window
+abbrev pub runWindow : StudyRun → Window
+runWindow r = between (r .first) (r .last)
+
 -- how often a place stands in an order
-unfoldable pub times : ℕ → List ℕ → ℕ
-times i [] = 0
-times i (x ∷ xs) = pick (eqb x i) 1 0 + times i xs
+unfoldable pub occurrences : ℕ → List ℕ → ℕ
+occurrences i [] = 0
+occurrences i (x ∷ xs) = pick (eqb x i) 1 0 + occurrences i xs
 
 -- an order of n places has each of the places 0 to n − 1 once, and nothing else
 abbrev pub IsOrder : ℕ → List ℕ → Type 0
-IsOrder n order = (i : ℕ) → times i order ≡ pick (ltb i n) 1 0
+IsOrder n order = (i : ℕ) → occurrences i order ≡ pick (ltb i n) 1 0
 
 -- opening accepts the run's window, and the run gets each of n places once
 abbrev pub Opens : ℕ → StudyRun → Type 0
 Opens n r = (opened (r .first) (r .last) .refused ≡ 0) × IsOrder n (r .order)
 
--- the parts r, rs of the days b to e: the first starts on b, each next one on the day after the last one's end, and the last ends on e.
--- A single part is allowed
-abbrev pub Consecutive : ℕ → ℕ → ℕ → StudyRun → List StudyRun → Type 0
-Consecutive n b e r [] = Opens n r × (dayNumber (r .first) ≡ b) × (dayNumber (r .last) ≡ e)
-Consecutive n b e r (q ∷ rs) = Opens n r × (dayNumber (r .first) ≡ b) × Consecutive n (dayNumber (r .last) + 1) e q rs
-
 -- the claim at a place of the list. (Past the list, where no order goes, a claim of zeros)
-unfoldable pub claimAt : List Claim → ℕ → Claim
-claimAt claims i =
+unfoldable pub nthClaim : List Claim → ℕ → Claim
+nthClaim claims i =
     let no-date : Date = record { year = 0; month = 0; day = 0 } in
     getD claims i
     (record { number = 0; disability = no-date; bcd = no-date; termination = no-date; maximum = no-date; status = 0; code = 0; cell = 0 })
@@ -53,12 +54,12 @@ claimAt claims i =
 -- the study after the additions of an order: each gets the study that the one before it returned, refused or not, and the same rates
 unfoldable pub after : List ℕ → List Claim → Study → List ℕ → Study
 after rates claims s [] = s
-after rates claims s (x ∷ xs) = after rates claims (added s (claimAt claims x) rates .study) xs
+after rates claims s (x ∷ xs) = after rates claims (added s (nthClaim claims x) rates .study) xs
 
 -- the study that the addition of place i is given
 unfoldable pub givenTo : List ℕ → List Claim → ℕ → Study → List ℕ → Study
 givenTo rates claims i s [] = s
-givenTo rates claims i s (x ∷ xs) = pick (eqb x i) s (givenTo rates claims i (added s (claimAt claims x) rates .study) xs)
+givenTo rates claims i s (x ∷ xs) = pick (eqb x i) s (givenTo rates claims i (added s (nthClaim claims x) rates .study) xs)
 
 -- a run starts with the study as opening returned it. Its last study, and the study that its addition of place i is given
 unfoldable pub lastStudy : List ℕ → List Claim → StudyRun → Study
@@ -69,55 +70,57 @@ givenAt rates claims i r = givenTo rates claims i (opened (r .first) (r .last) .
 
 -- the number that a run's addition of place i answers
 unfoldable pub answerAt : List ℕ → List Claim → ℕ → StudyRun → ℕ
-answerAt rates claims i r = added (givenAt rates claims i r) (claimAt claims i) rates .refused
+answerAt rates claims i r = added (givenAt rates claims i r) (nthClaim claims i) rates .refused
 
 -- the claim at place i is counted as closed in a run: its addition there makes one closing count of one group higher by one, and no other
 abbrev pub CountedClosed : List ℕ → List Claim → ℕ → StudyRun → Type 0
 CountedClosed rates claims i r =
     (k : ℕ) × (k < 25)
-    × (added (givenAt rates claims i r) (claimAt claims i) rates .study .closings
-    ≡ set (givenAt rates claims i r .closings) k (getD (givenAt rates claims i r .closings) k 0 + 1))
+    × (added (givenAt rates claims i r) (nthClaim claims i) rates .study .sums .closings
+    ≡ set (givenAt rates claims i r .sums .closings) k (getD (givenAt rates claims i r .sums .closings) k 0 + 1))
+
+-- its addition there leaves all closing counts as they were
+abbrev pub LeavesClosings : List ℕ → List Claim → ℕ → StudyRun → Type 0
+LeavesClosings rates claims i r =
+    added (givenAt rates claims i r) (nthClaim claims i) rates .study .sums .closings ≡ givenAt rates claims i r .sums .closings
 
 -- the number of the first of the checks 2 to 8 that a claim fails with the rates, or 0: a claim with 0 is accepted
-unfoldable pub claimNumber : List ℕ → Claim → ℕ
-claimNumber rates c = pick (eqb (claimCheck c) 0) (rateCheck rates (c .cell)) (claimCheck c)
+unfoldable pub ownRefusal : List ℕ → Claim → ℕ
+ownRefusal rates c = claimCheck c then rateCheck rates (c .cell)
 
 -- the accepted claims of a list
 unfoldable pub accepted : List ℕ → List Claim → List Claim
 accepted rates [] = []
-accepted rates (c ∷ cs) = pick (eqb (claimNumber rates c) 0) (c ∷ accepted rates cs) (accepted rates cs)
+accepted rates (c ∷ cs) = pick (eqb (ownRefusal rates c) 0) (c ∷ accepted rates cs) (accepted rates cs)
 
 -- accepted, and closed in the window of a run
 unfoldable pub closesIn : List ℕ → Claim → StudyRun → Bool
-closesIn rates c r = eqb (claimNumber rates c) 0 && closedIn c (dayNumber (r .first)) (dayNumber (r .last))
-
--- the sums of the parts' studies total exactly those of the undivided window's study: in every group (a place of the list) the exposure, the
--- closing counts under each category, the expected recoveries and the expected deaths
-pub record SumsTotal {R : Type 0} (study : R → Study) (whole : Study) (part : R) (parts : List R) : Type 0 where
-  pub thirtieths : (g : ℕ) → total _+ℤ_ (λ r. getD (study r .thirtieths) g (pos 0)) part parts ≡ getD (whole .thirtieths) g (pos 0)
-  pub closings : (k : ℕ) → total _+_ (λ r. getD (study r .closings) k 0) part parts ≡ getD (whole .closings) k 0
-  pub recoveries : (g : ℕ) → total _+ℤ_ (λ r. getD (study r .recoveries) g (pos 0)) part parts ≡ getD (whole .recoveries) g (pos 0)
-  pub deaths : (g : ℕ) → total _+ℤ_ (λ r. getD (study r .deaths) g (pos 0)) part parts ≡ getD (whole .deaths) g (pos 0)
+closesIn rates c r = eqb (ownRefusal rates c) 0 && closedIn c (runWindow r .first .0) (runWindow r .last .0)
 
 -- What demand 3 says of rates, a list of claims, the run over the undivided window, and the runs over its parts
 pub record AddsUp (rates : List ℕ) (claims : List Claim) (whole part : StudyRun) (parts : List StudyRun) : Type 0 where
-  -- 1. In every group the sums of the parts' last studies total exactly those of the undivided window's
-  pub sums : SumsTotal (lastStudy rates claims) (lastStudy rates claims whole) part parts
+  -- 1. The sums of the parts' last studies total exactly those of the undivided window's: in every group the exposure, the closing counts
+  -- under each category, the expected recoveries and the expected deaths
+  pub sums : total plus (λ r. lastStudy rates claims r .sums) part parts ≡ lastStudy rates claims whole .sums
   -- 2. Every place gets the same answer in each run: the number that its claim and the rates have by themselves
-  pub answer : (i : ℕ) → i < length claims → answerAt rates claims i whole ≡ claimNumber rates (claimAt claims i)
+  pub answer : (i : ℕ) → i < length claims → answerAt rates claims i whole ≡ ownRefusal rates (nthClaim claims i)
   pub same-answer : (i : ℕ) → i < length claims → EveryPart (λ r. answerAt rates claims i r ≡ answerAt rates claims i whole) part parts
-  -- 3. An accepted claim that is closed in the undivided window is counted as closed there and in exactly one part; any other in none
-  pub counted : (i : ℕ) → i < length claims → closesIn rates (claimAt claims i) whole ≡ true
+  -- 3. An accepted claim that is closed in the undivided window is counted as closed there and in exactly one part, and leaves the closing
+  -- counts of every other part as they were; any other claim leaves those of every study as they were, so it is counted in none
+  pub counted : (i : ℕ) → i < length claims → closesIn rates (nthClaim claims i) whole ≡ true
       → CountedClosed rates claims i whole × ExactlyOnePart (CountedClosed rates claims i) part parts
-  pub not-counted : (i : ℕ) → i < length claims → closesIn rates (claimAt claims i) whole ≡ false
-      → (CountedClosed rates claims i whole → ⊥) × NoPart (CountedClosed rates claims i) part parts
+      × EveryPart (λ r. CountedClosed rates claims i r ⊎ LeavesClosings rates claims i r) part parts
+  pub not-counted : (i : ℕ) → i < length claims → closesIn rates (nthClaim claims i) whole ≡ false
+      → LeavesClosings rates claims i whole × EveryPart (LeavesClosings rates claims i) part parts
+      × (CountedClosed rates claims i whole → ⊥) × NoPart (CountedClosed rates claims i) part parts
   -- 4. Each last study is the study of its window and the accepted claims: claims taken, closing counts and sums as the Study rules say
-  pub whole-study : lastStudy rates claims whole ≡ studyOf (dayNumber (whole .first)) (dayNumber (whole .last)) rates (accepted rates claims)
-  pub part-studies : EveryPart (λ r. lastStudy rates claims r ≡ studyOf (dayNumber (r .first)) (dayNumber (r .last)) rates (accepted rates claims)) part parts
+  pub whole-study : lastStudy rates claims whole ≡ studyOf (runWindow whole) rates (accepted rates claims)
+  pub part-studies : EveryPart (λ r. lastStudy rates claims r ≡ studyOf (runWindow r) rates (accepted rates claims)) part parts
 
 -- Demand 3: it holds of everything that the engine can be given
 abbrev pub Demand3 : Type 0
 Demand3 =
     (rates : List ℕ) (claims : List Claim) (whole part : StudyRun) (parts : List StudyRun) → length claims ≤ 500000
-    → Opens (length claims) whole → Consecutive (length claims) (dayNumber (whole .first)) (dayNumber (whole .last)) part parts
+    → Opens (length claims) whole
+    → Parts (Opens (length claims)) runWindow (runWindow whole .first .0) (runWindow whole .last .0) part parts
     → AddsUp rates claims whole part parts

@@ -2,8 +2,11 @@
 ghost use mathlib.Core.Path.{_≡_};
 ghost use lib.Dec.{leb};
 ghost use lib.IntN.{natAbs};
-ghost use Rattle.study.specs.Study.{allWithin, allAtMost, hasRoom};
+ghost use Rattle.basics.specs.Tables.{allWithin, allAtMost};
+ghost use Rattle.study.specs.Sums.{within};
+ghost use Rattle.study.specs.Study.{hasRoom};
 use crate::Study;
+use crate::Sums;
 
 // Whether a number lies from −bound to bound.
 fn is_within(x: i64, bound: u64) -> bool
@@ -44,6 +47,26 @@ fn all_at_most(counts: [u32; 25]) -> bool
     true
 }
 
+// Whether sums are within the bounds of refusal 9.
+fn are_within(sums: Sums) -> bool
+    ensures { λ r. ⌜ r ≡ within 1 sums ⌝ }
+{
+    let thirtieths = sums.thirtieths;
+    if !all_within(thirtieths, 27000000000) {
+        return false;
+    }
+    let recoveries = sums.recoveries;
+    if !all_within(recoveries, 27000000000000000) {
+        return false;
+    }
+    let deaths = sums.deaths;
+    if !all_within(deaths, 27000000000000000) {
+        return false;
+    }
+    let closings = sums.closings;
+    all_at_most(closings)
+}
+
 // Whether the study has room.
 pub(crate) fn has_room(study: Study) -> bool
     ensures { λ r. ⌜ r ≡ hasRoom study ⌝ }
@@ -51,18 +74,6 @@ pub(crate) fn has_room(study: Study) -> bool
     if study.taken >= 500000 {
         return false;
     }
-    let thirtieths = study.thirtieths;
-    if !all_within(thirtieths, 27000000000) {
-        return false;
-    }
-    let recoveries = study.recoveries;
-    if !all_within(recoveries, 27000000000000000) {
-        return false;
-    }
-    let deaths = study.deaths;
-    if !all_within(deaths, 27000000000000000) {
-        return false;
-    }
-    let closings = study.closings;
-    all_at_most(closings)
+    let sums = study.sums;
+    are_within(sums)
 }

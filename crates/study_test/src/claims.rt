@@ -1,18 +1,9 @@
 // The list of claims that every study here gets.
-use calendar::Date;
 use claim_months::Claim;
+use test_support::dates::date;
 
 // How many claims there are. A prime, so that steps of any smaller length come to each of them once.
 pub(crate) const CLAIMS: u32 = 23;
-
-// A date written as eight digits, year, month and day; 0 is a missing date.
-pub(crate) fn date(digits: u32) -> Date {
-    Date {
-        year: (digits / 10000 % 10000) as u16,
-        month: (digits / 100 % 100) as u8,
-        day: (digits % 100) as u8,
-    }
-}
 
 fn with_cell(disability: u32, bcd: u32, cell: u8) -> Claim {
     Claim {

@@ -1,16 +1,37 @@
 // Studies that no opening made, at the edges of the checks 1 and 9, and the order of the checks.
 ghost use Prim.Native.Nat.{_<_};
 use crate::claims::claim;
-use crate::claims::date;
-use crate::figures::bits;
 use crate::figures::figures;
+use crate::figures::put_groups;
 use crate::figures::same_study;
-use crate::print::put;
-use crate::print::put_groups;
-use crate::print::put_next;
-use crate::print::put_signed;
 use calendar::Day;
+use claim_months::Window;
 use study::Study;
+use study::Sums;
+use test_support::dates::date;
+use test_support::numbers::bits;
+use test_support::print::put;
+use test_support::print::put_next;
+use test_support::print::put_next_signed;
+
+// About the largest sums that a study takes, above and below 0, and the ends of their type.
+const THIRTIETHS: [i64; 6] = [
+    27000000000,
+    27000000001,
+    -27000000000,
+    -27000000001,
+    9223372036854775807,
+    -9223372036854775808,
+];
+
+const EXPECTED: [i64; 6] = [
+    27000000000000000,
+    27000000000000001,
+    -27000000000000000,
+    -27000000000000001,
+    9223372036854775807,
+    -9223372036854775808,
+];
 
 pub(crate) fn edges(table: &[u32; 1916]) {
     openings();
@@ -37,8 +58,8 @@ fn opening(first: u32, last: u32) {
     put(b" refused");
     put_next(opened.refused as u64);
     put(b" window");
-    put_next(study.first.0 as u64);
-    put_next(study.last.0 as u64);
+    put_next(study.window.first.0 as u64);
+    put_next(study.window.last.0 as u64);
     put(b" taken");
     put_next(study.taken as u64);
     put(b"\n");
@@ -47,13 +68,17 @@ fn opening(first: u32, last: u32) {
 // A study of a window, with claims taken and sums and counts that no claim gave it.
 fn made(first: u32, last: u32, taken: u32) -> Study {
     Study {
-        first: Day(first),
-        last: Day(last),
+        window: Window {
+            first: Day(first),
+            last: Day(last),
+        },
         taken,
-        thirtieths: [10, 11, 12, 13, 14],
-        closings: [40; 25],
-        recoveries: [20, 21, 22, 23, 24],
-        deaths: [30, 31, 32, 33, 34],
+        sums: Sums {
+            thirtieths: [10, 11, 12, 13, 14],
+            closings: [40; 25],
+            recoveries: [20, 21, 22, 23, 24],
+            deaths: [30, 31, 32, 33, 34],
+        },
     }
 }
 
@@ -121,36 +146,41 @@ fn closing(place: usize, count: u32, table: &[u32; 1916])
     put_next(place as u64);
     put_next(count as u64);
     let mut study = given();
-    let mut closings = study.closings;
+    let mut sums = study.sums;
+    let mut closings = sums.closings;
     closings[place] = count;
-    study.closings = closings;
+    sums.closings = closings;
+    study.sums = sums;
     show(study, 1, table);
 }
 
 fn sums(table: &[u32; 1916]) {
-    thirtieths(0, 27000000000, table);
-    thirtieths(4, 27000000001, table);
-    thirtieths(2, -27000000000, table);
-    thirtieths(3, -27000000001, table);
-    thirtieths(1, 9223372036854775807, table);
-    thirtieths(0, -9223372036854775808, table);
-    recoveries(0, 27000000000000000, table);
-    recoveries(4, 27000000000000001, table);
-    recoveries(2, -27000000000000000, table);
-    recoveries(3, -27000000000000001, table);
-    recoveries(1, 9223372036854775807, table);
-    recoveries(0, -9223372036854775808, table);
-    deaths(0, 27000000000000000, table);
-    deaths(4, 27000000000000001, table);
-    deaths(2, -27000000000000000, table);
-    deaths(3, -27000000000000001, table);
-    deaths(1, 9223372036854775807, table);
-    deaths(0, -9223372036854775808, table);
+    about(0, THIRTIETHS, table);
+    about(1, EXPECTED, table);
+    about(2, EXPECTED, table);
 }
 
-fn put_sum(place: usize, sum: i64) {
+// Each sum at a place of one field of a study: thirtieths at 0, expected recoveries at 1, expected deaths at 2.
+fn about(field: u8, sums: [i64; 6], table: &[u32; 1916]) {
+    sum(field, 0, sums[0], table);
+    sum(field, 4, sums[1], table);
+    sum(field, 2, sums[2], table);
+    sum(field, 3, sums[3], table);
+    sum(field, 1, sums[4], table);
+    sum(field, 0, sums[5], table);
+}
+
+fn sum(field: u8, place: usize, sum: i64, table: &[u32; 1916])
+    requires { ⌜ place < 5 ⌝ }
+{
+    match field {
+        0 => put(b"thirtieths"),
+        1 => put(b"recoveries"),
+        _ => put(b"deaths"),
+    }
     put_next(place as u64);
-    put_signed(bits(sum));
+    put_next_signed(bits(sum));
+    show(with_sum(field, place, sum), 1, table);
 }
 
 fn changed(sums: [i64; 5], place: usize, sum: i64) -> [i64; 5]
@@ -161,40 +191,30 @@ fn changed(sums: [i64; 5], place: usize, sum: i64) -> [i64; 5]
     after
 }
 
-fn thirtieths(place: usize, sum: i64, table: &[u32; 1916])
+fn with_sum(field: u8, place: usize, sum: i64) -> Study
     requires { ⌜ place < 5 ⌝ }
 {
-    put(b"thirtieths");
-    put_sum(place, sum);
     let mut study = given();
-    let sums = study.thirtieths;
-    let after = changed(sums, place, sum);
-    study.thirtieths = after;
-    show(study, 1, table);
-}
-
-fn recoveries(place: usize, sum: i64, table: &[u32; 1916])
-    requires { ⌜ place < 5 ⌝ }
-{
-    put(b"recoveries");
-    put_sum(place, sum);
-    let mut study = given();
-    let sums = study.recoveries;
-    let after = changed(sums, place, sum);
-    study.recoveries = after;
-    show(study, 1, table);
-}
-
-fn deaths(place: usize, sum: i64, table: &[u32; 1916])
-    requires { ⌜ place < 5 ⌝ }
-{
-    put(b"deaths");
-    put_sum(place, sum);
-    let mut study = given();
-    let sums = study.deaths;
-    let after = changed(sums, place, sum);
-    study.deaths = after;
-    show(study, 1, table);
+    let mut sums = study.sums;
+    match field {
+        0 => {
+            let before = sums.thirtieths;
+            let after = changed(before, place, sum);
+            sums.thirtieths = after;
+        }
+        1 => {
+            let before = sums.recoveries;
+            let after = changed(before, place, sum);
+            sums.recoveries = after;
+        }
+        _ => {
+            let before = sums.deaths;
+            let after = changed(before, place, sum);
+            sums.deaths = after;
+        }
+    }
+    study.sums = sums;
+    study
 }
 
 // The same with the first rates of the table only.

@@ -1,83 +1,87 @@
-// A study's sums and counts as one list of 64-bit numbers, a negative one as 2^64 more.
+// A study's sums and counts as one list of 64-bit numbers, a negative one as 2^64 more: eight for each group, the groups in order.
 ghost use Prim.Native.Nat.{_<_};
 use std::num::wrapping_add_u64;
-use std::num::wrapping_sub_u64;
+use study::Group;
 use study::Study;
+use test_support::lists::same;
+use test_support::numbers::bits;
+use test_support::print::put;
+use test_support::print::put_next_signed;
+use test_support::print::put_number;
 
-// A signed number's 64 bits.
-pub(crate) fn bits(x: i64) -> u64 {
-    if x < 0 {
-        return wrapping_sub_u64(18446744073709551615, (-1 - x) as u64);
-    }
-    x as u64
-}
-
-// Thirtieths of each group, closing counts of each group and category, expected recoveries and deaths of each group.
-pub(crate) fn figures(study: Study) -> [u64; 40] {
-    let thirtieths = study.thirtieths;
-    let closings = study.closings;
-    let recoveries = study.recoveries;
-    let deaths = study.deaths;
-    let counts = with_counts([0; 40], closings);
-    let exposed = with_sums(counts, 0, thirtieths);
-    let recovered = with_sums(exposed, 30, recoveries);
-    with_sums(recovered, 35, deaths)
-}
-
-fn with_counts(list: [u64; 40], counts: [u32; 25]) -> [u64; 40] {
-    let mut after = list;
-    let mut k = 0;
-    while k < 25 {
-        after[k + 5] = counts[k] as u64;
-        k += 1;
-    }
-    after
-}
-
-fn with_sums(list: [u64; 40], from: usize, sums: [i64; 5]) -> [u64; 40]
-    requires { ⌜ from < 36 ⌝ }
+// A group's figures in order: thirtieths, the five closing counts, expected recoveries and deaths.
+fn group_figure(group: Group, place: usize) -> u64
+    requires { ⌜ place < 8 ⌝ }
 {
+    if place == 0 {
+        return bits(group.thirtieths);
+    }
+    if place == 6 {
+        return bits(group.recoveries);
+    }
+    if place == 7 {
+        return bits(group.deaths);
+    }
+    let closings = group.closings;
+    closings[place - 1] as u64
+}
+
+fn figure(study: Study, place: usize) -> u64
+    requires { ⌜ place < 40 ⌝ }
+{
+    let sums = study.sums;
+    group_figure(sums.group((place / 8 + 1) as u8), place % 8)
+}
+
+// The list with a study's figures added, place by place.
+pub(crate) fn with_study(list: [u64; 40], study: Study) -> [u64; 40] {
     let mut after = list;
     let mut k = 0;
-    while k < 5 {
-        let x = sums[k];
-        after[from + k] = bits(x);
+    while k < 40 {
+        after[k] = wrapping_add_u64(list[k], figure(study, k));
         k += 1;
     }
     after
 }
 
-pub(crate) fn plus(a: [u64; 40], b: [u64; 40]) -> [u64; 40] {
-    let mut after = a;
-    let mut k = 0;
-    while k < 40 {
-        after[k] = wrapping_add_u64(a[k], b[k]);
-        k += 1;
-    }
-    after
-}
-
-pub(crate) fn same(a: [u64; 40], b: [u64; 40]) -> bool {
-    let mut k = 0;
-    while k < 40 {
-        if a[k] != b[k] {
-            return false;
-        }
-        k += 1;
-    }
-    true
+pub(crate) fn figures(study: Study) -> [u64; 40] {
+    with_study([0; 40], study)
 }
 
 // Whether two studies are the same in every field.
 pub(crate) fn same_study(a: Study, b: Study) -> bool {
-    if a.first.0 != b.first.0 {
+    if a.window.first.0 != b.window.first.0 {
         return false;
     }
-    if a.last.0 != b.last.0 {
+    if a.window.last.0 != b.window.last.0 {
         return false;
     }
     if a.taken != b.taken {
         return false;
     }
-    same(figures(a), figures(b))
+    same(&figures(a), &figures(b))
+}
+
+// A group's line: its number and its figures in order.
+fn put_group(figures: &[u64; 40], k: usize)
+    requires { ⌜ k < 5 ⌝ }
+{
+    put_number(k as u64 + 1);
+    put_next_signed(figures[8 * k]);
+    put_next_signed(figures[8 * k + 1]);
+    put_next_signed(figures[8 * k + 2]);
+    put_next_signed(figures[8 * k + 3]);
+    put_next_signed(figures[8 * k + 4]);
+    put_next_signed(figures[8 * k + 5]);
+    put_next_signed(figures[8 * k + 6]);
+    put_next_signed(figures[8 * k + 7]);
+    put(b"\n");
+}
+
+pub(crate) fn put_groups(figures: &[u64; 40]) {
+    put_group(figures, 0);
+    put_group(figures, 1);
+    put_group(figures, 2);
+    put_group(figures, 3);
+    put_group(figures, 4);
 }

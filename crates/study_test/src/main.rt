@@ -3,22 +3,21 @@
 mod claims;
 mod edges;
 mod figures;
-mod print;
 
 use claims::CLAIMS;
 use claims::claim;
-use claims::date;
 use edges::edges;
 use figures::figures;
-use figures::plus;
-use figures::same;
-use print::put;
-use print::put_groups;
-use print::put_next;
-use print::put_number;
-use print::put_yes;
+use figures::put_groups;
+use figures::with_study;
 use std::num::wrapping_add_u32;
 use study::Study;
+use test_support::dates::date;
+use test_support::lists::filled;
+use test_support::lists::same;
+use test_support::print::put;
+use test_support::print::put_next;
+use test_support::print::put_number;
 
 fn main() {
     let table = rate_table();
@@ -30,28 +29,23 @@ fn main() {
 
 // Two cells. The rates of cell 0 differ at every duration; those of cell 1 are together 1,000,000, and at duration 300 one more.
 fn rate_table() -> [u32; 1916] {
-    let mut table = [500000u32; 1916];
-    let mut n: u32 = 0;
-    while n < 479 {
-        table[n as usize] = 30000 - 60 * n;
-        table[n as usize + 479] = 2000 + 17 * n;
-        n += 1;
-    }
+    // 60 less at each duration: a step of 1,000,000 − 60.
+    let recoveries = filled([500000; 1916], 0, 479, 30000, 999940, 1000000);
+    let mut table = filled(recoveries, 479, 958, 2000, 17, 1000000);
     table[1735] = 500001;
     table
 }
 
-// The study of the list between two dates, with its claims in steps from a start, printed. Its figures.
-fn run(first: u32, last: u32, start: u32, step: u32, table: &[u32; 1916]) -> [u64; 40] {
+// The study of the list between two dates, with its claims in steps from a start, printed.
+fn run(first: u32, last: u32, start: u32, step: u32, table: &[u32; 1916]) -> Study {
     put_window(first, last);
     put(b" claims");
     let study = list_added(opened(first, last), start, step, table);
     put(b"\ntaken");
     put_next(study.taken as u64);
     put(b"\n");
-    let f = figures(study);
-    put_groups(&f);
-    f
+    put_groups(&figures(study));
+    study
 }
 
 fn list_added(study: Study, start: u32, step: u32, table: &[u32; 1916]) -> Study {
@@ -88,12 +82,12 @@ fn added(study: Study, place: u32, table: &[u32; 1916]) -> Study {
 
 // The undivided window in three orders; its years; two parts, the first up to the day before a settlement; four parts.
 fn divided(table: &[u32; 1916]) {
-    let whole = run(20090101, 20171231, 0, 1, table);
-    let back = run(20090101, 20171231, 22, 22, table);
-    let leap = run(20090101, 20171231, 5, 7, table);
+    let whole = figures(run(20090101, 20171231, 0, 1, table));
+    let back = figures(run(20090101, 20171231, 22, 22, table));
+    let leap = figures(run(20090101, 20171231, 5, 7, table));
     put(b"orders equal");
-    put_yes(same(whole, back));
-    put_yes(same(whole, leap));
+    put_yes(same(&whole, &back));
+    put_yes(same(&whole, &leap));
     put(b"\n");
     compare(b"years", years(table), whole);
     compare(b"two parts", two_parts(table), whole);
@@ -104,14 +98,14 @@ fn years(table: &[u32; 1916]) -> [u64; 40] {
     let mut total = [0u64; 40];
     let mut year: u32 = 2009;
     while year < 2018 {
-        let f = run(
+        let study = run(
             year * 10000 + 101,
             year * 10000 + 1231,
             year,
             year - 2008,
             table,
         );
-        let next = plus(total, f);
+        let next = with_study(total, study);
         total = next;
         year += 1;
     }
@@ -121,15 +115,16 @@ fn years(table: &[u32; 1916]) -> [u64; 40] {
 fn two_parts(table: &[u32; 1916]) -> [u64; 40] {
     let a = run(20090101, 20110215, 1, 2, table);
     let b = run(20110216, 20171231, 2, 3, table);
-    plus(a, b)
+    with_study(figures(a), b)
 }
 
 fn four_parts(table: &[u32; 1916]) -> [u64; 40] {
     let a = run(20090101, 20090101, 3, 4, table);
     let b = run(20090102, 20120229, 4, 6, table);
+    let half = with_study(figures(a), b);
     let c = run(20120301, 20161230, 6, 8, table);
     let d = run(20161231, 20171231, 7, 10, table);
-    plus(plus(a, b), plus(c, d))
+    with_study(with_study(half, c), d)
 }
 
 // The whole calendar, and three parts of it.
@@ -138,7 +133,8 @@ fn long(table: &[u32; 1916]) {
     let a = run(19500101, 20081231, 9, 12, table);
     let b = run(20090101, 20171231, 0, 1, table);
     let c = run(20180101, 20991231, 10, 13, table);
-    compare(b"long", plus(plus(a, b), c), whole);
+    let total = with_study(with_study(figures(a), b), c);
+    compare(b"long", total, figures(whole));
 }
 
 fn compare(name: &[u8], total: [u64; 40], whole: [u64; 40]) {
@@ -150,8 +146,16 @@ fn compare(name: &[u8], total: [u64; 40], whole: [u64; 40]) {
     put_groups(&whole);
     put(name);
     put(b" equal");
-    put_yes(same(total, whole));
+    put_yes(same(&total, &whole));
     put(b"\n");
+}
+
+fn put_yes(yes: bool) {
+    if yes {
+        put(b" yes");
+    } else {
+        put(b" NO");
+    }
 }
 
 // One claim alone, settled on the second part's first day: 8 and -1 thirtieths, and together 7.

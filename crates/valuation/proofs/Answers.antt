@@ -6,46 +6,47 @@ use mathlib.Core.List.{List}
 use borrow.Author.Tests.{ne-eqb}
 use lib.Dec.{leb}
 use lib.Ieee.{Float, binary64, ofBits, lt, le}
+use Rattle.basics.specs.Checks.{_then_}
 use Rattle.rates.specs.Rates.{rateCheck}
 use Rattle.valuation.specs.Rate.{valuationRate, durationSound, valuationCheck, rateIn}
-use Rattle.valuation.specs.Reserve.{factor, discountSound, reserveCheck, reserveIn}
+use Rattle.valuation.specs.Reserve.{reserveOf, discountSound, reserveCheck, reserveIn}
 use Rattle.valuation.proofs.ReserveLaws.{zero-bits, one-bits}
 use Rattle.valuation.specs.declared.MaybeRate.the-variants as rate
 use Rattle.valuation.specs.declared.Reserve.the-variants as reserve
 
 module _ (rates : List ℕ) (cell k : ℕ) (e : k ≡ rateCheck rates cell) (t d : ℕ) where
   pub rate-table : (k ≡ 0 → ⊥) → rate.Refused k ≡ rateIn rates cell t d
-  unfolding rateIn valuationCheck
+  unfolding rateIn valuationCheck _then_
   rate-table h = rw (← e) (simp (ne-eqb k 0 h))
 
   pub rate-duration : k ≡ 0 → durationSound d ≡ false → rate.Refused 12 ≡ rateIn rates cell t d
-  unfolding rateIn valuationCheck
+  unfolding rateIn valuationCheck _then_
   rate-duration h f = simp (← e, h, f)
 
   pub rate-found : k ≡ 0 → durationSound d ≡ true → rate.Rate (valuationRate rates cell t d) ≡ rateIn rates cell t d
-  unfolding rateIn valuationCheck
+  unfolding rateIn valuationCheck _then_
   rate-found h f = simp (← e, h, f)
 
 module _ (rates : List ℕ) (cell k : ℕ) (e : k ≡ rateCheck rates cell) (first : ℕ) (t : List ℕ) (months : ℕ) (v : Float) where
   pub reserve-table : (k ≡ 0 → ⊥) → reserve.Refused k ≡ reserveIn rates cell first t months v
-  unfolding reserveIn reserveCheck
+  unfolding reserveIn reserveCheck _then_
   reserve-table h = rw (← e) (simp (ne-eqb k 0 h))
 
   pub reserve-duration :
       k ≡ 0 → (durationSound first && leb months 480) ≡ false → reserve.Refused 12 ≡ reserveIn rates cell first t months v
-  unfolding reserveIn reserveCheck
+  unfolding reserveIn reserveCheck _then_
   reserve-duration h f = simp (← e, h, f)
 
   pub reserve-discount :
       k ≡ 0 → (durationSound first && leb months 480) ≡ true → discountSound v ≡ false
       → reserve.Refused 13 ≡ reserveIn rates cell first t months v
-  unfolding reserveIn reserveCheck
+  unfolding reserveIn reserveCheck _then_
   reserve-discount h f g = simp (← e, h, f, g)
 
   pub reserve-found :
       k ≡ 0 → (durationSound first && leb months 480) ≡ true → discountSound v ≡ true
-      → reserve.Factor (factor rates cell first t months v) ≡ reserveIn rates cell first t months v
-  unfolding reserveIn reserveCheck
+      → reserve.Factor (reserveOf rates cell first t months v) ≡ reserveIn rates cell first t months v
+  unfolding reserveIn reserveCheck _then_
   reserve-found h f g = simp (← e, h, f, g)
 
 -- the code's two tests of the discount, with its constants by their bits, are check 13's

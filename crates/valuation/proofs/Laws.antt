@@ -10,9 +10,9 @@ use borrow.Author.Tests.{le-leb, leb-true, ne-eqb}
 use lib.Dec.{T, eqb, leb→le}
 use lib.IntN.{ℤ, pos, negsuc}
 use lib.Signed.{_≤ℤ_}
-use Rattle.calendar.specs.Calendar.{pick}
-use Rattle.calendar.proofs.Tests.{by, tests}
-use Rattle.valuation.specs.Factor.{IsLargest, IsSmallest, largest, smallest, groupK, groupTwiceA, positive, zReaches, credibility, rReaches, margin, unlimited, factor, factorsOf, factorIn}
+use Rattle.basics.specs.Pick.{pick}
+use Rattle.basics.proofs.Tests.{by, tests}
+use Rattle.valuation.specs.Factor.{IsLargest, IsSmallest, largest, smallest, groupK, groupTwiceA, positive, zReaches, credibility, rReaches, margin, unlimited, factorOf, factorsOf, factorIn}
 
 -- no test comes out both ways
 pub clash : {A : Type 0} {t : Bool} → t ≡ true → t ≡ false → A
@@ -198,6 +198,6 @@ unlimited-rises g b c e l =
 
 -- the answer depends on the positive part alone of E
 pub of-positive : (g c : ℕ) (e : ℤ) → factorIn g c (pos (positive e)) ≡ factorIn g c e
-unfolding factorIn factorsOf factor unlimited credibility zReaches positive
+unfolding factorIn factorsOf factorOf unlimited credibility zReaches positive
 of-positive g c (pos e) = refl
 of-positive g c (negsuc e) = refl

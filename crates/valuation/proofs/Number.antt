@@ -14,11 +14,13 @@ use lib.Ieee.Fits.{down-pos, round-is}
 use lib.Ieee.Exact.{HasValue}
 use lib.Ieee.Order.{round-mono}
 use lib.Ieee.Back.{round-whole}
-use Rattle.calendar.specs.Calendar.{pick}
-use Rattle.calendar.proofs.Tests.{tests, by, and-left, and-right}
+use Rattle.basics.specs.Pick.{pick}
+use Rattle.basics.specs.Checks.{check}
+use Rattle.basics.proofs.Checks.{check-passed, then-passed}
+use Rattle.basics.proofs.Tests.{tests, by, and-left, and-right}
 use Rattle.rates.specs.Rates.{rateCheck}
 use Rattle.valuation.specs.Rate.{durationSound}
-use Rattle.valuation.specs.Reserve.{float, start, month, running, factor, discountSound, reserveCheck, reserveIn}
+use Rattle.valuation.specs.Reserve.{float, start, month, running, reserveOf, discountSound, reserveCheck, reserveIn}
 use Rattle.valuation.specs.declared.Reserve.the-variants.{Factor, Refused}
 use Rattle.valuation.specs.declared.reserve_factor.Running.{Running}
 
@@ -168,25 +170,18 @@ module _ (rates : List ℕ) (cell first : ℕ) (t : List ℕ) (v : Float) (passe
   running-sound (suc n) = month-sound _ _ v (discount-share v passed) (running-sound n)
 
   -- no factor is a NaN
-  pub factor-number : (months : ℕ) → isNan (factor rates cell first t months v) ≡ false
-  unfolding factor
+  pub factor-number : (months : ℕ) → isNan (reserveOf rates cell first t months v) ≡ false
+  unfolding reserveOf
   factor-number months = number _ (running-sound months .sum-not-negative)
 
--- a check that found nothing found the discount sound
-last-passed : (k : ℕ) (a b : Bool) → _≡_ {A = ℕ} (pick (eqb k 0) (pick a (pick b 0 13) 12) k) 0 → b ≡ true
-last-passed k a b =
-    by (eqb k 0) (λ s. pick s (pick a (pick b 0 13) 12) k ≡ 0 → b ≡ true) (λ q. last a b) (λ q e. absurd (omega tests))
-  where
-    last : (a b : Bool) → _≡_ {A = ℕ} (pick a (pick b 0 13) 12) 0 → b ≡ true
-    last true true e = refl
-    last true false e = absurd (omega arith)
-    last false b e = absurd (omega arith)
-
+-- what passing the checks says of the last of them
 discount-passed :
     (rates : List ℕ) (cell first months : ℕ) (v : Float) → reserveCheck rates cell first months v ≡ 0 → discountSound v ≡ true
 unfolding reserveCheck
-discount-passed rates cell first months v =
-    last-passed (rateCheck rates cell) (durationSound first && leb months 480) (discountSound v)
+discount-passed rates cell first months v e =
+    let p = then-passed (rateCheck rates cell) _ e in
+    let q = then-passed (check (durationSound first && leb months 480) 12) _ (p .1) in
+    check-passed (discountSound v) 13 (omega arith) (q .1)
 
 -- so no answer of the call carries a NaN
 pub answer-number :
@@ -204,4 +199,4 @@ answer-number rates cell first t months v x =
     k = reserveCheck rates cell first months v
 
     y : Float
-    y = factor rates cell first t months v
+    y = reserveOf rates cell first t months v

@@ -6,6 +6,7 @@ use mathlib.Core.List.{List, [], _∷_, _++_}
 use lib.ListN.{replicate}
 use lib.IntN.{negsuc}
 use lib.Ieee.{Float, fin, ofInt, add, mul, div, lt, le, eq}
+use Rattle.basics.specs.Checks.{_then_}
 use Rattle.rates.specs.Rates.{cells, place, recoveryRate, deathRate, tableSound, ratesSoundTo, ratesSound, rateCheck, groupOf}
 use Rattle.valuation.specs.Rate.{valuationRate, durationSound}
 use Rattle.valuation.specs.Reserve.{
@@ -16,7 +17,7 @@ use Rattle.valuation.specs.Reserve.{
   groupT,
   monthRate,
   running,
-  factor,
+  reserveOf,
   discountSound,
   reserveCheck,
   reserveIn,
@@ -38,8 +39,8 @@ two-months = refl
 -- for every table, cell, first duration and T that give this g throughout
 pub half-throughout :
     (rates : List ℕ) (cell first : ℕ) (t : List ℕ) → ((n : ℕ) → monthRate rates cell first t n ≡ 500000)
-    → factor rates cell first t 2 half ≡ figure
-unfolding factor running month
+    → reserveOf rates cell first t 2 half ≡ figure
+unfolding reserveOf running month
 half-throughout rates cell first t g = rw (g 1, g 2) two-months
 
 -- one cell, recovery rates 300,000 and death rates 200,000, each T 1,000,000: this g, so the call's answer is the figure
@@ -50,5 +51,5 @@ abbrev pub even : List ℕ
 even = 1000000 ∷ 1000000 ∷ 1000000 ∷ 1000000 ∷ 1000000 ∷ []
 
 pub call-answers : reserveIn table 0 4 even 2 half ≡ Factor figure
-unfolding reserveIn reserveCheck rateCheck tableSound cells ratesSound ratesSoundTo recoveryRate deathRate place durationSound discountSound factor running month start monthRate monthDuration groupT groupOf valuationRate float ofInt add mul div lt le eq
+unfolding reserveIn reserveCheck _then_ rateCheck tableSound cells ratesSound ratesSoundTo recoveryRate deathRate place durationSound discountSound reserveOf running month start monthRate monthDuration groupT groupOf valuationRate float ofInt add mul div lt le eq
 call-answers = refl

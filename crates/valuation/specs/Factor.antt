@@ -4,7 +4,8 @@ use mathlib.Core.Path.{_≡_}
 use mathlib.Core.Bool.{Bool, true, false, _&&_}
 use lib.Dec.{leb, ltb, eqb}
 use lib.IntN.{ℤ, pos, negsuc}
-use Rattle.calendar.specs.Calendar.{pick}
+use Rattle.basics.specs.Pick.{pick}
+use Rattle.basics.specs.Checks.{refuse-valuation}
 use Rattle.valuation.specs.declared.GroupFactor.{GroupFactor}
 use Rattle.valuation.specs.declared.MaybeFactor.{MaybeFactor}
 use Rattle.valuation.specs.declared.MaybeFactor.the-variants.{Known, Refused}
@@ -68,8 +69,8 @@ unlimited g c e =
 unfoldable pub isLimited : ℕ → ℕ → Bool
 isLimited g c = leb 3 g && pick (eqb g 3) (ltb c 5000) true
 
-unfoldable pub factor : ℕ → ℕ → ℤ → ℕ
-factor g c e = pick (isLimited g c) (min 1300000 (unlimited g c e)) (unlimited g c e)
+unfoldable pub factorOf : ℕ → ℕ → ℤ → ℕ
+factorOf g c e = pick (isLimited g c) (min 1300000 (unlimited g c e)) (unlimited g c e)
 
 -- 12, valuation: group outside 1–5, C over 500,000
 unfoldable pub factorSound : ℕ → ℕ → Bool
@@ -79,8 +80,8 @@ factorSound g c = leb 1 g && leb g 5 && leb c 500000
 unfoldable pub factorsOf : ℕ → ℕ → ℤ → GroupFactor
 factorsOf g c e =
     pick (eqb g 1) (record { z = 0; m = 0; t = 1000000 })
-    (record { z = credibility g e; m = margin g c; t = factor g c e })
+    (record { z = credibility g e; m = margin g c; t = factorOf g c e })
 
 -- what the call for z, m and T answers
 unfoldable pub factorIn : ℕ → ℕ → ℤ → MaybeFactor
-factorIn g c e = pick (factorSound g c) (Known (factorsOf g c e)) (Refused 12)
+factorIn g c e = pick (factorSound g c) (Known (factorsOf g c e)) (Refused refuse-valuation)

@@ -2,4 +2,4 @@
 pub mod Factor
 pub mod Rate
 pub mod Reserve
-pub mod Sums
+pub mod StudyFactor

@@ -3,7 +3,8 @@ use Prim.Native.Nat.{ℕ, _+_, _*_, _/_, min}
 use mathlib.Core.Bool.{Bool, _&&_}
 use mathlib.Core.List.{List}
 use lib.Dec.{leb, eqb}
-use Rattle.calendar.specs.Calendar.{pick}
+use Rattle.basics.specs.Pick.{pick}
+use Rattle.basics.specs.Checks.{check, _then_, refuse-valuation}
 use Rattle.rates.specs.Rates.{recoveryRate, deathRate, rateCheck}
 use Rattle.valuation.specs.declared.MaybeRate.{MaybeRate}
 use Rattle.valuation.specs.declared.MaybeRate.the-variants.{Rate, Refused}
@@ -18,7 +19,7 @@ durationSound d = leb 2 d && leb d 480
 
 -- the number of the first of the checks 6 to 8 and 12 that fails, or 0
 unfoldable pub valuationCheck : List ℕ → ℕ → ℕ → ℕ
-valuationCheck rates cell d = pick (eqb (rateCheck rates cell) 0) (pick (durationSound d) 0 12) (rateCheck rates cell)
+valuationCheck rates cell d = rateCheck rates cell then check (durationSound d) refuse-valuation
 
 -- what the call for the valuation rate answers
 unfoldable pub rateIn : List ℕ → ℕ → ℕ → ℕ → MaybeRate

@@ -6,7 +6,8 @@ use lib.ListN.{getD}
 use lib.Dec.{leb, eqb}
 use lib.IntN.{pos}
 use lib.Ieee.{Float, binary64, ofInt, add, mul, div, lt, le}
-use Rattle.calendar.specs.Calendar.{pick}
+use Rattle.basics.specs.Pick.{pick}
+use Rattle.basics.specs.Checks.{check, _then_, refuse-valuation, refuse-discount}
 use Rattle.rates.specs.Rates.{rateCheck, groupOf}
 use Rattle.valuation.specs.Rate.{valuationRate, durationSound}
 use Rattle.valuation.specs.declared.Reserve.{Reserve}
@@ -49,8 +50,8 @@ running rates cell first t v (suc n) =
     month (running rates cell first t v n) (monthRate rates cell first t (suc n)) v
 
 -- the factor of N months is the sum
-unfoldable pub factor : List ℕ → ℕ → ℕ → List ℕ → ℕ → Float → Float
-factor rates cell first t months v = running rates cell first t v months .sum
+unfoldable pub reserveOf : List ℕ → ℕ → ℕ → List ℕ → ℕ → Float → Float
+reserveOf rates cell first t months v = running rates cell first t v months .sum
 
 -- 13, discount: not (V > 0 and V ≤ 1)
 unfoldable pub discountSound : Float → Bool
@@ -59,12 +60,12 @@ discountSound v = lt (float 0) v && le v (float 1)
 -- the number of the first of the checks 6 to 8, 12 (duration outside 2–480, N over 480) and 13 that fails, or 0
 unfoldable pub reserveCheck : List ℕ → ℕ → ℕ → ℕ → Float → ℕ
 reserveCheck rates cell first months v =
-    pick (eqb (rateCheck rates cell) 0)
-    (pick (durationSound first && leb months 480) (pick (discountSound v) 0 13) 12)
-    (rateCheck rates cell)
+    rateCheck rates cell
+    then check (durationSound first && leb months 480) refuse-valuation
+    then check (discountSound v) refuse-discount
 
 -- what the call for the reserve factor answers: the factor, or the number refused
 unfoldable pub reserveIn : List ℕ → ℕ → ℕ → List ℕ → ℕ → Float → Reserve
 reserveIn rates cell first t months v =
-    pick (eqb (reserveCheck rates cell first months v) 0) (Factor (factor rates cell first t months v))
+    pick (eqb (reserveCheck rates cell first months v) 0) (Factor (reserveOf rates cell first t months v))
     (Refused (reserveCheck rates cell first months v))

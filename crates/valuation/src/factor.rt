@@ -3,10 +3,11 @@ ghost use mathlib.Core.Path.{_≡_};
 ghost use Prim.Native.Nat.{_+_, _-_, _*_, _/_, _≤_, _<_, min};
 ghost use lib.Dec.{eqb};
 ghost use lib.IntN.{pos};
-ghost use Rattle.calendar.specs.Calendar.{pick};
+ghost use Rattle.basics.specs.Pick.{pick};
 ghost use Rattle.valuation.specs.Factor.{groupK, groupTwiceA, positive, credibility, margin, isLimited, factorsOf, factorIn};
 use crate::GroupFactor;
 use crate::MaybeFactor;
+use basics::refusal;
 
 // The one of four numbers that is the group's, 2 to 5.
 fn of_group(group: u8, second: u64, third: u64, fourth: u64, fifth: u64) -> u64
@@ -145,13 +146,13 @@ pub(crate) fn known_factor(group: u8, terminations: u64, expected: u64) -> Maybe
     ensures { λ r. ⌜ r ≡ factorIn group terminations (pos expected) ⌝ }
 {
     if group < 1 {
-        return MaybeFactor::Refused(12);
+        return MaybeFactor::Refused(refusal::VALUATION);
     }
     if 5 < group {
-        return MaybeFactor::Refused(12);
+        return MaybeFactor::Refused(refusal::VALUATION);
     }
     if 500000 < terminations {
-        return MaybeFactor::Refused(12);
+        return MaybeFactor::Refused(refusal::VALUATION);
     }
     if group == 1 {
         return MaybeFactor::Known(GroupFactor {

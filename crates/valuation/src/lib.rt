@@ -2,7 +2,7 @@
 pub mod factor;
 pub mod rate;
 pub mod reserve_factor;
-pub mod sums;
+pub mod study_factor;
 
 // z, m and T of a group, in millionths.
 pub struct GroupFactor {

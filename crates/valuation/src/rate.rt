@@ -5,7 +5,8 @@ ghost use denote.Ref.{now};
 ghost use Rattle.rates.specs.Rates.{rateCheck};
 ghost use Rattle.valuation.specs.Rate.{valuationRate, rateIn};
 use crate::MaybeRate;
-use claim_months::Duration;
+use basics::Duration;
+use basics::refusal;
 use rates::check;
 use rates::death;
 use rates::recovery;
@@ -49,10 +50,10 @@ pub fn valuation_rate(rates: &[u32], cell: u8, t: u64, duration: Duration) -> Ma
     }
     let months = duration.0;
     if months < 2 {
-        return MaybeRate::Refused(12);
+        return MaybeRate::Refused(refusal::VALUATION);
     }
     if months > 480 {
-        return MaybeRate::Refused(12);
+        return MaybeRate::Refused(refusal::VALUATION);
     }
     MaybeRate::Rate(rate_of(rates, cell, t, duration))
 }

@@ -6,7 +6,8 @@ ghost use Rattle.rates.specs.Rates.{rateCheck};
 ghost use Rattle.valuation.specs.Reserve.{month, monthDuration, monthRate, running, reserveIn};
 use crate::Reserve;
 use crate::rate::rate_of;
-use claim_months::Duration;
+use basics::Duration;
+use basics::refusal;
 use rates::check;
 use rates::group;
 
@@ -88,13 +89,13 @@ pub fn reserve_factor(
     }
     let duration = first.0;
     if duration < 2 {
-        return Reserve::Refused(12);
+        return Reserve::Refused(refusal::VALUATION);
     }
     if duration > 480 {
-        return Reserve::Refused(12);
+        return Reserve::Refused(refusal::VALUATION);
     }
     if months > 480 {
-        return Reserve::Refused(12);
+        return Reserve::Refused(refusal::VALUATION);
     }
     if v > 0.0 {
         if v <= 1.0 {
@@ -102,5 +103,5 @@ pub fn reserve_factor(
             return Reserve::Factor(run.sum);
         }
     }
-    Reserve::Refused(13)
+    Reserve::Refused(refusal::DISCOUNT)
 }

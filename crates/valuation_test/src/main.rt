@@ -1,8 +1,10 @@
 // z, m and T at the edges of each rule and check: from C and E for every group, then from a study's sums.
-use libc::STDOUT_FILENO;
+use study::Sums;
+use test_support::print::put;
+use test_support::print::put_number;
 use valuation::MaybeFactor;
 use valuation::factor::factor;
-use valuation::sums::sums_factor;
+use valuation::study_factor::study_factor;
 
 const MOST: i64 = 9223372036854775807;
 
@@ -11,8 +13,8 @@ const LEAST: i64 = -9223372036854775808;
 const FULL: u32 = 4294967295;
 
 fn number(word: &[u8], n: u64) {
-    io::write_all(STDOUT_FILENO, word);
-    io::print_decimal(STDOUT_FILENO, n);
+    put(word);
+    put_number(n);
 }
 
 // The answer, after the group.
@@ -26,7 +28,7 @@ fn line(group: u8, answer: MaybeFactor) {
         }
         MaybeFactor::Refused(n) => number(b": refused ", n as u64),
     }
-    io::write_all(STDOUT_FILENO, b"\n");
+    put(b"\n");
 }
 
 fn of_group(group: u8, terminations: u32, expected: i64) {
@@ -46,7 +48,7 @@ fn groups(terminations: u32, expected: i64) {
 }
 
 fn counts(word: &[u8], expected: i64) {
-    io::write_all(STDOUT_FILENO, word);
+    put(word);
     groups(0, expected);
     groups(1, expected);
     groups(2, expected);
@@ -82,15 +84,44 @@ fn factors() {
     counts(b"E 9223372036854775807\n", MOST);
 }
 
+// Sums with the figures of one group at its places; every other figure is 1.
+fn sums_of(group: u8, counts: [u32; 5], expected_recoveries: i64, expected_deaths: i64) -> Sums {
+    let mut closings = [1u32; 25];
+    let mut recoveries = [1i64; 5];
+    let mut deaths = [1i64; 5];
+    if group >= 1 {
+        if group <= 5 {
+            let place = (group - 1) as usize;
+            let first = 5 * place;
+            closings[first] = counts[0];
+            closings[first + 1] = counts[1];
+            closings[first + 2] = counts[2];
+            closings[first + 3] = counts[3];
+            closings[first + 4] = counts[4];
+            recoveries[place] = expected_recoveries;
+            deaths[place] = expected_deaths;
+        }
+    }
+    Sums {
+        thirtieths: [1; 5],
+        closings,
+        recoveries,
+        deaths,
+    }
+}
+
 fn of_sums(case: u64, group: u8, closings: [u32; 5], recoveries: i64, deaths: i64) {
     number(b"case ", case);
-    line(group, sums_factor(group, closings, recoveries, deaths));
+    line(
+        group,
+        study_factor(sums_of(group, closings, recoveries, deaths), group),
+    );
 }
 
 // Each of the five counts alone.
 fn alone(n: u32, group: u8) {
     number(b"one count ", n as u64);
-    io::write_all(STDOUT_FILENO, b"\n");
+    put(b"\n");
     of_sums(1, group, [n, 0, 0, 0, 0], 6000000000, 3000000000);
     of_sums(2, group, [0, n, 0, 0, 0], 6000000000, 3000000000);
     of_sums(3, group, [0, 0, n, 0, 0], 6000000000, 3000000000);
@@ -100,7 +131,7 @@ fn alone(n: u32, group: u8) {
 
 // C about 500,000, and past 32 bits.
 fn together() {
-    io::write_all(STDOUT_FILENO, b"counts together\n");
+    put(b"counts together\n");
     of_sums(1, 2, [300, 7, 0, 0, 0], 6000000000, 3000000000);
     of_sums(2, 2, [7, 300, FULL, FULL, FULL], 6000000000, 3000000000);
     of_sums(3, 2, [250000, 250000, FULL, FULL, FULL], 1, 0);
@@ -117,7 +148,7 @@ fn together() {
 
 // Both expected sums from end to end.
 fn sums(group: u8) {
-    io::write_all(STDOUT_FILENO, b"expected sums\n");
+    put(b"expected sums\n");
     let closings = [250000, 240000, 3, 4, 5];
     of_sums(1, group, closings, MOST, MOST);
     of_sums(2, group, closings, MOST, LEAST);
@@ -147,7 +178,7 @@ fn sums(group: u8) {
 
 // The printed table's groups.
 fn printed() {
-    io::write_all(STDOUT_FILENO, b"printed table\n");
+    put(b"printed table\n");
     of_sums(1, 1, [0, 0, 0, 0, 0], 0, 0);
     of_sums(2, 2, [0, 0, 0, 0, 0], 6300000, 3150000);
     of_sums(3, 3, [1, 0, 0, 0, 0], 4200000, 2100000);

@@ -6,7 +6,7 @@ use native.Mathlib.Omega.{arith}
 use borrow.Author.Needs.{needs}
 use borrow.Author.Tests.{le-leb, lt-leb}
 use Rattle.calendar.specs.declared.Date.{Date}
-use Rattle.calendar.specs.Calendar.{monthIndex, monthStart, daysBefore, dateOf, monthOf}
+use Rattle.calendar.specs.Calendar.{monthIndex, monthStart, daysBefore, dateOf, monthOf, lastDayNumber, firstMonth}
 use Rattle.calendar.specs.Answers.{dateAt}
 use Rattle.calendar.proofs.Laws.{length-high, date-bounds, date-in-month, number-of-date, date-of-day-is-date, month-of-high, same-date}
 use Rattle.calendar.proofs.date_of_day.Statement.{statement}
@@ -14,10 +14,7 @@ use Rattle.calendar.proofs.date_of_day.Tie as tie
 
 returns : tie.Need-returns
 unfolding dateAt
-returns c = simp (lt-leb (c .before .args .day .0) 54786 (omega arith))
-
-month-of-requires : tie.Need-month-of-requires
-month-of-requires c κs = search needs
+returns c = simp (lt-leb (c .before .args .day .0) lastDayNumber (omega arith))
 
 -- the date of day n, from its month m, counted from 1950, and that month's start s
 record Parts (n m s : ℕ) : Type 0 where
@@ -26,14 +23,14 @@ record Parts (n m s : ℕ) : Type 0 where
   day-high : n - s + 1 ≤ 31
   date : _≡_ {A = Date} (record { year = 1950 + m / 12; month = m % 12 + 1; day = n - s + 1 }) (dateOf n)
 
-parts : (n m s : ℕ) → n ≤ 54786 → 23400 + m ≡ monthOf n → s ≡ daysBefore m → Parts n m s
+parts : (n m s : ℕ) → n ≤ lastDayNumber → firstMonth + m ≡ monthOf n → s ≡ daysBefore m → Parts n m s
 unfolding monthOf monthIndex monthStart
 parts n m s h e f =
     let b = date-bounds (dateOf n) (date-of-day-is-date n h) in
     let i = date-in-month (dateOf n) (date-of-day-is-date n h) in
     let d = number-of-date n in
     let l = length-high (dateOf n .year) (dateOf n .month) in
-    let g : monthOf n - 23400 ≡ m = omega arith in
+    let g : monthOf n - firstMonth ≡ m = omega arith in
     let k = ap daysBefore g in
     record {
       start = omega arith;
@@ -48,23 +45,11 @@ found c = parts _ _ _ (c .before .before .if1 .left) (c .before .month-of .ensur
 days-before-requires : tie.Need-days-before-requires
 days-before-requires c κs = omega (arith, month-of-high _ (c .before .if1 .left))
 
-add-t7 : tie.Need-add-t7
-add-t7 c = search needs
-
 cast-t8 : tie.Need-cast-t8
 cast-t8 c = omega (arith, found c .year-high)
 
-add-t10 : tie.Need-add-t10
-add-t10 c = search needs
-
-cast-t11 : tie.Need-cast-t11
-cast-t11 c = search needs
-
 sub-t12 : tie.Need-sub-t12
 sub-t12 c = found c .start
-
-add-t13 : tie.Need-add-t13
-add-t13 c = search needs
 
 cast-t14 : tie.Need-cast-t14
 cast-t14 c = omega (arith, found c .day-high)
@@ -76,15 +61,5 @@ returns-2 c = simp (le-leb _ _ (c .before .before .if1 .left), found c .date)
 pub date-of-day-spec : {M : Type 1} → statement M
 date-of-day-spec =
     tie.close
-    (tie.spec
-    returns
-    month-of-requires
-    days-before-requires
-    add-t7
-    cast-t8
-    add-t10
-    cast-t11
-    sub-t12
-    add-t13
-    cast-t14
-    returns-2)
+    (tie.spec returns (λ c κs. search needs) days-before-requires (λ c. search needs) cast-t8 (λ c. search needs) (λ c. search needs) sub-t12
+    (λ c. search needs) cast-t14 returns-2)

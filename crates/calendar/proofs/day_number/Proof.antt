@@ -7,14 +7,11 @@ use native.Mathlib.Omega.{arith}
 use borrow.Author.Needs.{needs}
 use borrow.Author.Tests.{not-true, not-false}
 use Rattle.calendar.specs.declared.Date.{Date}
-use Rattle.calendar.specs.Calendar.{isDate, monthIndex, monthStart, daysBefore, dayNumber}
+use Rattle.calendar.specs.Calendar.{isDate, monthIndex, monthStart, daysBefore, dayNumber, firstMonth}
 use Rattle.calendar.specs.Answers.{dayOf}
 use Rattle.calendar.proofs.Laws.{DateBounds, date-bounds, day-last}
 use Rattle.calendar.proofs.day_number.Statement.{statement}
 use Rattle.calendar.proofs.day_number.Tie as tie
-
-is-date-requires : tie.Need-is-date-requires
-is-date-requires c κs = search needs
 
 returns : tie.Need-returns
 unfolding dayOf
@@ -31,32 +28,17 @@ bounds c = date-bounds _ (dated c)
 number : (d : Date) (n : ℕ) → DateBounds d → n ≡ daysBefore ((d .year - 1950) * 12 + (d .month - 1)) → n + (d .day - 1) ≡ dayNumber d
 unfolding dayNumber monthStart monthIndex
 number d n b e =
-    let m : (d .year - 1950) * 12 + (d .month - 1) ≡ d .year * 12 + (d .month - 1) - 23400 = omega arith in
+    let m : (d .year - 1950) * 12 + (d .month - 1) ≡ d .year * 12 + (d .month - 1) - firstMonth = omega arith in
     ap (λ (k : ℕ). k + (d .day - 1)) (e ∙ ap daysBefore m)
-
-cast-months : tie.Need-cast-months
-cast-months c = search needs
 
 sub-months : tie.Need-sub-months
 sub-months c = bounds (c .before) .year-low
 
-mul-months : tie.Need-mul-months
-mul-months c = search needs
-
-cast-months-2 : tie.Need-cast-months-2
-cast-months-2 c = search needs
-
 sub-months-2 : tie.Need-sub-months-2
 sub-months-2 c = bounds (c .before .before) .month-low
 
-add-months : tie.Need-add-months
-add-months c = search needs
-
 days-before-requires : tie.Need-days-before-requires
 days-before-requires c κs = omega (arith, bounds (c .before .before))
-
-cast-t9 : tie.Need-cast-t9
-cast-t9 c = search needs
 
 sub-t8 : tie.Need-sub-t8
 sub-t8 c = omega (arith, bounds (c .before .before .before .before))
@@ -77,17 +59,5 @@ returns-2 c = simp (dated (c .before .before .before .before), ← known c)
 pub day-number-spec : {M : Type 1} → statement M
 day-number-spec =
     tie.close
-    (tie.spec
-    is-date-requires
-    returns
-    cast-months
-    sub-months
-    mul-months
-    cast-months-2
-    sub-months-2
-    add-months
-    days-before-requires
-    cast-t9
-    sub-t8
-    add-t7
-    returns-2)
+    (tie.spec (λ c κs. search needs) returns (λ c. search needs) sub-months (λ c. search needs) (λ c. search needs) sub-months-2 (λ c. search needs)
+    days-before-requires (λ c. search needs) sub-t8 add-t7 returns-2)

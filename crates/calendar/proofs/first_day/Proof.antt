@@ -16,13 +16,11 @@ returns-2 : tie.Need-returns-2
 unfolding firstDay isMonth
 returns-2 c = simp (lt-leb _ _ (c .if2 .taken), and-false)
 
-days-before-requires : tie.Need-days-before-requires
-days-before-requires c κs = search needs
-
 returns-3 : tie.Need-returns-3
 unfolding firstDay isMonth monthStart
 returns-3 c =
     simp (le-leb _ _ (c .before .before .if1 .left), le-leb _ _ (c .before .if2 .left), c .days-before .ensures)
 
 pub first-day-spec : {M : Type 1} → statement M
-first-day-spec = tie.close (tie.spec returns returns-2 days-before-requires returns-3)
+first-day-spec = tie.close
+    (tie.spec returns returns-2 (λ c κs. search needs) returns-3)

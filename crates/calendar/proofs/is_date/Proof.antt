@@ -31,9 +31,6 @@ returns-5 : tie.Need-returns-5
 unfolding isDate
 returns-5 c = simp (lt-leb _ _ (c .if5 .taken), and-false)
 
-month-length-requires : tie.Need-month-length-requires
-month-length-requires c κs = search needs
-
 -- a date that passed the tests on year and month, and the first on the day
 last-test : (d : Date) (l : ℕ) → 1950 ≤ d .year → d .year ≤ 2099 → 1 ≤ d .month → d .month ≤ 12 → 1 ≤ d .day
     → l ≡ monthLength (d .year) (d .month) → leb (d .day) l ≡ isDate d
@@ -53,4 +50,4 @@ returns-6 c =
 pub is-date-spec : {M : Type 1} → statement M
 is-date-spec =
     tie.close
-    (tie.spec returns returns-2 returns-3 returns-4 returns-5 month-length-requires returns-6)
+    (tie.spec returns returns-2 returns-3 returns-4 returns-5 (λ c κs. search needs) returns-6)

@@ -1,23 +1,21 @@
 -- `calendar::last_day` meets its contract: the tests of the index, and the day before the next month starts.
 -- Assumes nothing.
 use Prim.Native.Nat.{ℕ, _+_, _-_, _≤_}
-use mathlib.Core.Path.{_≡_, ap}
+use mathlib.Core.Path.{_≡_}
 use mathlib.Core.Bool.{and-false}
 use native.Mathlib.Omega.{arith}
 use borrow.Author.Needs.{needs}
 use borrow.Author.Tests.{le-leb, lt-leb}
-use Rattle.calendar.specs.Calendar.{monthStart, indexLength, daysBefore}
+use Rattle.calendar.specs.Calendar.{monthStart, indexLength, daysBefore, firstMonth}
 use Rattle.calendar.specs.Answers.{isMonth, lastDay}
 use Rattle.calendar.proofs.Laws.{month-step, index-length-low}
 use Rattle.calendar.proofs.last_day.Statement.{statement}
 use Rattle.calendar.proofs.last_day.Tie as tie
 
 -- the next month's start
-next : (i : ℕ) → 23400 ≤ i → daysBefore (i - 23399) ≡ monthStart i + indexLength i
+next : (i : ℕ) → firstMonth ≤ i → daysBefore (i + 1 - firstMonth) ≡ monthStart i + indexLength i
 unfolding monthStart
-next i h =
-    let e : i + 1 - 23400 ≡ i - 23399 = omega arith in
-    omega (arith, ap daysBefore e, month-step i h)
+next i h = omega (arith, month-step i h)
 
 returns : tie.Need-returns
 unfolding lastDay isMonth
@@ -27,17 +25,11 @@ returns-2 : tie.Need-returns-2
 unfolding lastDay isMonth
 returns-2 c = simp (lt-leb _ _ (c .if2 .taken), and-false)
 
-sub-days-before : tie.Need-sub-days-before
-sub-days-before c = search needs
-
-days-before-requires : tie.Need-days-before-requires
-days-before-requires c κs = search needs
-
-sub-t5 : tie.Need-sub-t5
-sub-t5 c = omega (arith, next _ (c .before .before .if1 .left), index-length-low (c .before .before .before .args .month))
+sub-t6 : tie.Need-sub-t6
+sub-t6 c = omega (arith, next _ (c .before .before .if1 .left), index-length-low (c .before .before .before .args .month))
 
 -- the next month starts on day n
-last : (i n : ℕ) → 23400 ≤ i → n ≡ daysBefore (i - 23399) → n - 1 ≡ monthStart i + (indexLength i - 1)
+last : (i n : ℕ) → firstMonth ≤ i → n ≡ daysBefore (i + 1 - firstMonth) → n - 1 ≡ monthStart i + (indexLength i - 1)
 last i n h e = omega (arith, next i h, index-length-low i)
 
 returns-3 : tie.Need-returns-3
@@ -51,4 +43,5 @@ returns-3 c =
 
 pub last-day-spec : {M : Type 1} → statement M
 last-day-spec =
-    tie.close (tie.spec returns returns-2 sub-days-before days-before-requires sub-t5 returns-3)
+    tie.close
+    (tie.spec returns returns-2 (λ c. search needs) (λ c. search needs) (λ c κs. search needs) sub-t6 returns-3)

@@ -8,12 +8,9 @@ use borrow.Author.Needs.{needs}
 use borrow.Author.Tests.{eq-eqb, ne-eqb, eqb-true}
 use lib.Dec.{eqb}
 use Rattle.calendar.specs.Calendar.{monthLength}
-use Rattle.calendar.proofs.Tests.{allBelow, all-at}
+use Rattle.basics.proofs.Tests.{allBelow, all-at}
 use Rattle.calendar.proofs.month_length.Statement.{statement}
 use Rattle.calendar.proofs.month_length.Tie as tie
-
-is-leap-year-requires : tie.Need-is-leap-year-requires
-is-leap-year-requires c κs = search needs
 
 returns : tie.Need-returns
 unfolding monthLength
@@ -22,12 +19,6 @@ returns c = simp (eq-eqb _ _ (c .before .before .if1 .taken), ← c .before .is-
 returns-2 : tie.Need-returns-2
 unfolding monthLength
 returns-2 c = simp (eq-eqb _ _ (c .before .before .if1 .taken), ← c .before .is-leap-year .ensures, c .if2 .left)
-
-add-result : tie.Need-add-result
-add-result c = search needs
-
-add-result-2 : tie.Need-add-result-2
-add-result-2 c = search needs
 
 -- the length that the code computes is right at a month that isn't February
 right : ℕ → Bool
@@ -49,4 +40,5 @@ returns-3 c = others _ _ (c .before .pre .0) (c .before .pre .1) (c .if1 .left)
 
 pub month-length-spec : {M : Type 1} → statement M
 month-length-spec =
-    tie.close (tie.spec is-leap-year-requires returns returns-2 add-result add-result-2 returns-3)
+    tie.close
+    (tie.spec (λ c κs. search needs) returns returns-2 (λ c. search needs) (λ c. search needs) returns-3)

@@ -6,8 +6,8 @@ use mathlib.Core.Bool.{Bool, true, _&&_, and-eq-true-iff}
 use native.Mathlib.Omega.{arith}
 use borrow.Author.Needs.{needs}
 use lib.Dec.{leb, ltb}
-use Rattle.calendar.specs.Calendar.{daysBefore, monthStart, monthOf}
-use Rattle.calendar.proofs.Tests.{allBelow, all-at, tests}
+use Rattle.calendar.specs.Calendar.{daysBefore, monthStart, monthOf, lastDayNumber, firstMonth}
+use Rattle.basics.proofs.Tests.{allBelow, all-at, tests}
 use Rattle.calendar.proofs.Closed.{closed, days-closed}
 use Rattle.calendar.proofs.Laws.{months-order, month-of-low, month-of-high, month-of-start, month-of-end}
 use Rattle.calendar.proofs.month_of.Statement.{statement}
@@ -22,26 +22,26 @@ unfolding near
 all-near = refl
 
 -- a month's start, as the code counts
-start : (k : ℕ) → monthStart (23400 + k) ≡ daysBefore k
+start : (k : ℕ) → monthStart (firstMonth + k) ≡ daysBefore k
 unfolding monthStart
-start k = let e : 23400 + k - 23400 ≡ k = omega arith in ap daysBefore e
+start k = let e : firstMonth + k - firstMonth ≡ k = omega arith in ap daysBefore e
 
 abbrev guess : ℕ → ℕ
 guess n = 48 * (n + 3) / 1461
 
 record Near (n : ℕ) : Type 0 where
-  low : monthOf n ≤ 23400 + guess n
-  high : 23400 + guess n ≤ monthOf n + 1
+  low : monthOf n ≤ firstMonth + guess n
+  high : firstMonth + guess n ≤ monthOf n + 1
 
-guessed : (n : ℕ) → n ≤ 54786 → Near n
+guessed : (n : ℕ) → n ≤ lastDayNumber → Near n
 unfolding near
 guessed n h =
     let l = month-of-low n in
     let m = month-of-high n h in
-    let k = monthOf n - 23400 in
+    let k = monthOf n - firstMonth in
     let t = simp and-eq-true-iff at (all-at near 1800 all-near k (omega arith)) in
-    let e : 23400 + k ≡ monthOf n = omega arith in
-    let f : 23400 + suc k ≡ monthOf n + 1 = omega arith in
+    let e : firstMonth + k ≡ monthOf n = omega arith in
+    let f : firstMonth + suc k ≡ monthOf n + 1 = omega arith in
     let a : closed k ≤ n =
     omega (arith, month-of-start n, ap monthStart e, start k, days-closed k (omega arith)) in
     let b : n < closed (suc k) =
@@ -49,28 +49,19 @@ guessed n h =
     omega tests
 
 -- the guess is the month after if that starts later than the day, and the month if not
-over : (n s : ℕ) → n ≤ 54786 → s ≡ daysBefore (guess n) → n < s → (1 ≤ guess n) × (23400 + (guess n - 1) ≡ monthOf n)
+over : (n s : ℕ) → n ≤ lastDayNumber → s ≡ daysBefore (guess n) → n < s → (1 ≤ guess n) × (firstMonth + (guess n - 1) ≡ monthOf n)
 over n s h e l =
     let g = guessed n h in
     let b = month-of-low n in
-    let o = months-order (monthOf n) (23400 + guess n) (omega arith) (omega (arith, month-of-start n, start (guess n))) in
+    let o = months-order (monthOf n) (firstMonth + guess n) (omega arith) (omega (arith, month-of-start n, start (guess n))) in
     omega arith
 
-met : (n s : ℕ) → n ≤ 54786 → s ≡ daysBefore (guess n) → s ≤ n → 23400 + guess n ≡ monthOf n
+met : (n s : ℕ) → n ≤ lastDayNumber → s ≡ daysBefore (guess n) → s ≤ n → firstMonth + guess n ≡ monthOf n
 met n s h e l =
     let g = guessed n h in
     let b = month-of-low n in
-    let o = months-order (23400 + guess n) (monthOf n + 1) (omega arith) (omega (arith, month-of-end n, start (guess n))) in
+    let o = months-order (firstMonth + guess n) (monthOf n + 1) (omega arith) (omega (arith, month-of-end n, start (guess n))) in
     omega arith
-
-add-guess : tie.Need-add-guess
-add-guess c = search needs
-
-mul-guess : tie.Need-mul-guess
-mul-guess c = search needs
-
-days-before-requires : tie.Need-days-before-requires
-days-before-requires c κs = search needs
 
 sub-result : tie.Need-sub-result
 sub-result c = over _ _ (c .before .before .pre) (c .before .days-before .ensures) (c .if1 .taken) .0
@@ -83,4 +74,5 @@ returns-2 c = met _ _ (c .before .before .pre) (c .before .days-before .ensures)
 
 pub month-of-spec : {M : Type 1} → statement M
 month-of-spec =
-    tie.close (tie.spec add-guess mul-guess days-before-requires sub-result returns returns-2)
+    tie.close
+    (tie.spec (λ c. search needs) (λ c. search needs) (λ c κs. search needs) sub-result returns returns-2)

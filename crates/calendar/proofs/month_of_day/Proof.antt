@@ -12,9 +12,6 @@ returns : tie.Need-returns
 unfolding monthAt
 returns c = simp (lt-leb _ _ (c .if1 .taken))
 
-month-of-requires : tie.Need-month-of-requires
-month-of-requires c κs = search needs
-
 add-t5 : tie.Need-add-t5
 add-t5 c = omega (arith, month-of-high _ (c .before .if1 .left))
 
@@ -23,4 +20,5 @@ unfolding monthAt
 returns-2 c = simp (le-leb _ _ (c .before .if1 .left), c .month-of .ensures)
 
 pub month-of-day-spec : {M : Type 1} → statement M
-month-of-day-spec = tie.close (tie.spec returns month-of-requires add-t5 returns-2)
+month-of-day-spec = tie.close
+    (tie.spec returns (λ c κs. search needs) add-t5 returns-2)

@@ -7,7 +7,8 @@ use native.Mathlib.Omega.{arith}
 use borrow.Author.Needs.{needs}
 use borrow.Author.Tests.{eq-eqb, ne-eqb, le-leb, lt-leb, lt-ltb, le-ltb}
 use lib.ListN.{length}
-use Rattle.calendar.specs.Calendar.{pick}
+use Rattle.basics.specs.Pick.{pick}
+use Rattle.basics.specs.Checks.{_then_}
 use Rattle.rates.specs.Rates.{cells, tableSound, rateCheck}
 use Rattle.rates.proofs.check.Statement.{statement}
 use Rattle.rates.proofs.check.Tie as tie
@@ -18,29 +19,26 @@ unfolding tableSound cells
 table-passes rates a b e = simp (eq-eqb _ _ a, le-leb _ _ b, le-leb _ _ e)
 
 returns : tie.Need-returns
-unfolding rateCheck tableSound
+unfolding rateCheck _then_ tableSound
 returns c = simp (ne-eqb _ _ (c .if1 .taken))
 
 returns-2 : tie.Need-returns-2
-unfolding rateCheck tableSound cells
+unfolding rateCheck _then_ tableSound cells
 returns-2 c =
     let l : ℕ = length (c .before .before .before .args .rates .now) in
     simp (eq-eqb (l % 958) 0 (omega arith), lt-leb 1 (l / 958) (omega arith))
 
 returns-3 : tie.Need-returns-3
-unfolding rateCheck tableSound cells
+unfolding rateCheck _then_ tableSound cells
 returns-3 c =
     let l : ℕ = length (c .before .before .before .before .args .rates .now) in
     simp (eq-eqb (l % 958) 0 (omega arith), le-leb 1 (l / 958) (omega arith), lt-leb (l / 958) 64 (omega arith))
 
 returns-4 : tie.Need-returns-4
-unfolding rateCheck cells
+unfolding rateCheck _then_ cells
 returns-4 c =
     let rates : List ℕ = c .before .before .before .before .before .args .rates .now in
     simp (table-passes rates (omega arith) (omega arith) (omega arith), le-ltb _ _ (c .if4 .taken))
-
-sound-requires : tie.Need-sound-requires
-sound-requires c κs = search needs
 
 -- past the checks 6 and 7, `sound` decides
 left-to-sound :
@@ -48,7 +46,7 @@ left-to-sound :
     → rateCheck (c .before .before .before .before .before .before .args .rates .now)
     (c .before .before .before .before .before .before .args .cell)
     ≡ pick (c .sound .result) 0 8
-unfolding rateCheck cells
+unfolding rateCheck _then_ cells
 left-to-sound c =
     let rates : List ℕ = c .before .before .before .before .before .before .args .rates .now in
     simp
@@ -62,4 +60,5 @@ returns-6 c = rw (c .if5 .left) at (sym (left-to-sound (c .before)))
 
 pub check-spec : {M : Type 1} → statement M
 check-spec =
-    tie.close (tie.spec returns returns-2 returns-3 returns-4 sound-requires returns-5 returns-6)
+    tie.close
+    (tie.spec returns returns-2 returns-3 returns-4 (λ c κs. search needs) returns-5 returns-6)

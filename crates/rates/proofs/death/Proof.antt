@@ -4,12 +4,10 @@ use Rattle.rates.specs.Rates.{deathRate}
 use Rattle.rates.proofs.death.Statement.{statement}
 use Rattle.rates.proofs.death.Tie as tie
 
-rate-requires : tie.Need-rate-requires
-rate-requires c κs = search needs
-
 returns : tie.Need-returns
 unfolding deathRate
 returns c = c .rate .ensures
 
 pub death-spec : {M : Type 1} → statement M
-death-spec = tie.close (tie.spec rate-requires returns)
+death-spec = tie.close
+    (tie.spec (λ c κs. search needs) returns)

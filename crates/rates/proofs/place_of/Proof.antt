@@ -12,12 +12,10 @@ returns-2 : tie.Need-returns-2
 unfolding place
 returns-2 c = omega arith
 
-cast-result : tie.Need-cast-result
-cast-result c = omega arith
-
 returns-3 : tie.Need-returns-3
 unfolding place
 returns-3 c = omega arith
 
 pub place-of-spec : {M : Type 1} → statement M
-place-of-spec = tie.close (tie.spec returns returns-2 cast-result returns-3)
+place-of-spec = tie.close
+    (tie.spec returns returns-2 (λ c. omega arith) returns-3)

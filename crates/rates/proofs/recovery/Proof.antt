@@ -5,12 +5,10 @@ use Rattle.rates.specs.Rates.{recoveryRate}
 use Rattle.rates.proofs.recovery.Statement.{statement}
 use Rattle.rates.proofs.recovery.Tie as tie
 
-rate-requires : tie.Need-rate-requires
-rate-requires c κs = search needs
-
 returns : tie.Need-returns
 unfolding recoveryRate
 returns c = simp add-zero at (c .rate .ensures)
 
 pub recovery-spec : {M : Type 1} → statement M
-recovery-spec = tie.close (tie.spec rate-requires returns)
+recovery-spec = tie.close
+    (tie.spec (λ c κs. search needs) returns)

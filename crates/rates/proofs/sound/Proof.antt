@@ -8,7 +8,7 @@ use native.Mathlib.Omega.{arith}
 use native.Mathlib.Numerals.{add-one}
 use borrow.Author.Tests.{le-leb}
 use borrow.Author.Needs.{needs}
-use Rattle.calendar.proofs.Tests.{by}
+use Rattle.basics.proofs.Tests.{by}
 use Rattle.rates.proofs.Laws.{bothRates, sound-at}
 use Rattle.rates.specs.Rates.{ratesSoundTo, ratesSound}
 use Rattle.rates.proofs.sound.Statement.{statement}
@@ -24,24 +24,6 @@ loop-holds : tie.Need-loop-holds Inv-loop μ-loop
 unfolding ratesSoundTo
 loop-holds c = (omega arith, refl)
 
-add-both : tie.Need-add-both Inv-loop μ-loop
-add-both c = omega arith
-
-recovery-requires : tie.Need-recovery-requires Inv-loop μ-loop
-recovery-requires c κs = search needs
-
-cast-both : tie.Need-cast-both Inv-loop μ-loop
-cast-both c = search needs
-
-death-requires : tie.Need-death-requires Inv-loop μ-loop
-death-requires c κs = search needs
-
-cast-both-2 : tie.Need-cast-both-2 Inv-loop μ-loop
-cast-both-2 c = search needs
-
-add-both-2 : tie.Need-add-both-2 Inv-loop μ-loop
-add-both-2 c = search needs
-
 returns : tie.Need-returns Inv-loop μ-loop
 unfolding ratesSound
 returns c =
@@ -50,12 +32,6 @@ returns c =
     let n : ℕ = c .before .before .before .before .loop .n in
     by (ratesSoundTo rates cell 479) (λ t. false ≡ t)
     (λ e. absurd (omega (arith, sound-at rates cell 479 n e (omega arith)))) (λ _. refl)
-
-add-n : tie.Need-add-n Inv-loop μ-loop
-add-n c = omega arith
-
-loop-less : tie.Need-loop-less Inv-loop μ-loop
-loop-less c = omega arith
 
 loop-again : tie.Need-loop-again Inv-loop μ-loop
 unfolding ratesSoundTo
@@ -74,18 +50,5 @@ returns-2 c =
 pub sound-spec : {M : Type 1} → statement M
 sound-spec =
     tie.close
-    (tie.spec
-    Inv-loop
-    μ-loop
-    loop-holds
-    add-both
-    recovery-requires
-    cast-both
-    death-requires
-    cast-both-2
-    add-both-2
-    returns
-    add-n
-    loop-less
-    loop-again
-    returns-2)
+    (tie.spec Inv-loop μ-loop loop-holds (λ c. omega arith) (λ c κs. search needs) (λ c. search needs) (λ c κs. search needs) (λ c. search needs)
+    (λ c. search needs) returns (λ c. omega arith) (λ c. omega arith) loop-again returns-2)

@@ -5,22 +5,16 @@ use borrow.Author.Tests.{not-true, not-false}
 use mathlib.Core.Path.{_≡_, sym, _∙_}
 use denote.Ref.{now}
 use Rattle.rates.specs.Rates.{rateCheck}
-use Rattle.study.proofs.WithSpan.{span-refused, span-full, span-taken}
+use Rattle.study.proofs.WithSpan.{rates-refused, span-full, span-taken}
 use Rattle.study.proofs.add_span.Statement.{statement}
 use Rattle.study.proofs.add_span.Tie as tie
 
-check-requires : tie.Need-check-requires
-check-requires c κs = search needs
-
 returns : tie.Need-returns
-returns c = span-refused _ _ _ _ _ (c .before .check .ensures) (c .if1 .taken)
+returns c = rates-refused _ _ _ _ _ (c .before .check .ensures) (c .if1 .taken)
 
 -- past the first test the rates are sound
 sound-rates : (c : tie.Else1) → rateCheck (now (c .before .before .before .args .rates)) (c .before .before .before .args .cell) ≡ 0
 sound-rates c = sym (c .before .check .ensures) ∙ c .if1 .left
-
-has-room-requires : tie.Need-has-room-requires
-has-room-requires c κs = search needs
 
 returns-2 : tie.Need-returns-2
 returns-2 c = span-full _ _ _ _ (sound-rates (c .before .before)) (sym (c .before .has-room .ensures) ∙ not-true _ (c .if2 .taken))
@@ -36,4 +30,5 @@ returns-3 c =
 
 pub add-span-spec : {M : Type 1} → statement M
 add-span-spec =
-    tie.close (tie.spec check-requires returns has-room-requires returns-2 taken-span-requires returns-3)
+    tie.close
+    (tie.spec (λ c κs. search needs) returns (λ c κs. search needs) returns-2 taken-span-requires returns-3)

@@ -1,13 +1,14 @@
--- `study::fresh_study` meets its contract: the arrays of zeros are the tables of the definition, by computing.
+-- `study::fresh_study` meets its contract: its sums are those of no claims.
 -- Assumes nothing.
-use mathlib.Core.Path.{refl}
-use Rattle.study.specs.Study.{table, fresh}
+use borrow.Author.Needs.{needs}
+use Rattle.study.specs.Study.{fresh}
 use Rattle.study.proofs.fresh_study.Statement.{statement}
 use Rattle.study.proofs.fresh_study.Tie as tie
 
 returns : tie.Need-returns
-unfolding table fresh
-returns c = refl
+unfolding fresh
+returns c = λ i. record { window = c .before .args .window; taken = 0; sums = c .no-sums .ensures i }
 
 pub fresh-study-spec : {M : Type 1} → statement M
-fresh-study-spec = tie.close (tie.spec returns)
+fresh-study-spec = tie.close
+    (tie.spec (λ c κs. search needs) returns)

@@ -5,27 +5,6 @@ use borrow.Author.Needs.{needs}
 use Rattle.c_abi.proofs.block.date_number.Statement.{statement}
 use Rattle.c_abi.proofs.block.date_number.Tie as tie
 
-cast-result : tie.Need-cast-result
-cast-result c = search needs
-
-cast-result-2 : tie.Need-cast-result-2
-cast-result-2 c = search needs
-
-mul-result : tie.Need-mul-result
-mul-result c = search needs
-
-add-result : tie.Need-add-result
-add-result c = search needs
-
-cast-result-3 : tie.Need-cast-result-3
-cast-result-3 c = search needs
-
-mul-result-2 : tie.Need-mul-result-2
-mul-result-2 c = search needs
-
-add-result-2 : tie.Need-add-result-2
-add-result-2 c = search needs
-
 returns : tie.Need-returns
 unfolding dateNumber
 returns c = refl
@@ -33,12 +12,5 @@ returns c = refl
 pub date-number-spec : {M : Type 1} → statement M
 date-number-spec =
     tie.close
-    (tie.spec
-    cast-result
-    cast-result-2
-    mul-result
-    add-result
-    cast-result-3
-    mul-result-2
-    add-result-2
-    returns)
+    (tie.spec (λ c. search needs) (λ c. search needs) (λ c. search needs) (λ c. search needs) (λ c. search needs) (λ c. search needs)
+    (λ c. search needs) returns)

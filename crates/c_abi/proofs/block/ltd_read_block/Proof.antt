@@ -6,8 +6,8 @@ use native.Mathlib.Omega.{arith}
 use lib.ListN.{length}
 use lib.Dec.{eqb}
 use borrow.Author.Tests.{eq-eqb, ne-eqb, le-leb}
-use Rattle.calendar.specs.Calendar.{pick}
-use Rattle.calendar.proofs.Tests.{by}
+use Rattle.basics.specs.Pick.{pick}
+use Rattle.basics.proofs.Tests.{by}
 use Rattle.claim_file.specs.declared.BlockRead.{BlockRead}
 use Rattle.claim_file.specs.Block.{claimCount, claimBlock, blockSound}
 use Rattle.claim_file.specs.Answers.{claimsIn, windowOf, readOf, blockCheck}
@@ -47,12 +47,6 @@ module _ (due : ℕ) (bytes old : List ℕ) (h : 121 ≤ length old) where
 returns : tie.Need-returns
 returns c = short 121 _ _ _ (c .if1 .taken)
 
-read-window-requires : tie.Need-read-window-requires
-read-window-requires c κs = search needs
-
-same-length : tie.Need-same-length
-same-length c = search needs
-
 returns-2 : tie.Need-returns-2
 unfolding after
 returns-2 c =
@@ -60,12 +54,6 @@ returns-2 c =
     let i = w .before .before in
     let s = i .before .before .before .before .args in
     zero (s .due) (s .block .now) (s .out .now) (i .before .if1 .left) _ _ (i .if2 .taken) (w .read-window .ensures .0) (w .read-window .ensures .1)
-
-read-claims-requires : tie.Need-read-claims-requires
-read-claims-requires c κs = search needs
-
-same-length-2 : tie.Need-same-length-2
-same-length-2 c = search needs
 
 returns-3 : tie.Need-returns-3
 unfolding after
@@ -78,11 +66,4 @@ returns-3 c =
 pub ltd-read-block-spec : {M : Type 1} → statement M
 ltd-read-block-spec =
     tie.close
-    (tie.spec
-    returns
-    read-window-requires
-    same-length
-    returns-2
-    read-claims-requires
-    same-length-2
-    returns-3)
+    (tie.spec returns (λ c κs. search needs) (λ c. search needs) returns-2 (λ c κs. search needs) (λ c. search needs) returns-3)

@@ -12,9 +12,6 @@ use borrow.Author.Needs.{needs}
 use Rattle.c_abi.proofs.block.ltd_write_block.Statement.{statement}
 use Rattle.c_abi.proofs.block.ltd_write_block.Tie as tie
 
-mul-if1 : tie.Need-mul-if1
-mul-if1 c = search needs
-
 module _ (number count : ℕ) (numbers old : List ℕ) where
   short-claims : length numbers < 8 * count → (255 ≡ writeAnswer number count numbers old) × (old ≡ writeAfter number count numbers old)
   unfolding writeAnswer writeAfter
@@ -51,27 +48,15 @@ returns c = short-claims _ _ _ _ (c .if1 .taken)
 returns-2 : tie.Need-returns-2
 returns-2 c = too-many _ _ _ _ (c .before .if1 .left) (c .if2 .taken)
 
-all-bytes-requires : tie.Need-all-bytes-requires
-all-bytes-requires c κs = search needs
-
 returns-3 : tie.Need-returns-3
 returns-3 c =
     let a = c .before in
     no-bytes _ _ _ _ (a .before .before .if1 .left) (a .before .if2 .left) (sym (a .all-bytes .ensures) ∙ not-true _ (c .if3 .taken))
 
-cast-count : tie.Need-cast-count
-cast-count c = search needs
-
 placed-requires : tie.Need-placed-requires
 placed-requires c κs =
     let a = c .before in
     (a .before .before .if1 .left, (a .before .if2 .left, sym (a .all-bytes .ensures) ∙ not-false _ (c .if3 .left)))
-
-write-requires : tie.Need-write-requires
-write-requires c κs = search needs
-
-same-length : tie.Need-same-length
-same-length c = search needs
 
 returns-4 : tie.Need-returns-4
 unfolding blockOf
@@ -89,14 +74,5 @@ returns-4 c =
 pub ltd-write-block-spec : {M : Type 1} → statement M
 ltd-write-block-spec =
     tie.close
-    (tie.spec
-    mul-if1
-    returns
-    returns-2
-    all-bytes-requires
-    returns-3
-    cast-count
-    placed-requires
-    write-requires
-    same-length
-    returns-4)
+    (tie.spec (λ c. search needs) returns returns-2 (λ c κs. search needs) returns-3 (λ c. search needs) placed-requires (λ c κs. search needs)
+    (λ c. search needs) returns-4)

@@ -11,18 +11,6 @@ use Rattle.c_abi.proofs.block.ltd_write_window.Tie as tie
 dates : (old l : List ℕ) (b b′ e e′ : Date) → b ≡ b′ → e ≡ e′ → l ≡ windowAfter b e old → l ≡ windowAfter b′ e′ old
 dates old l b b′ e e′ hb he q = q ∙ (λ i. windowAfter (hb i) (he i) old)
 
-date-in-requires : tie.Need-date-in-requires
-date-in-requires c κs = search needs
-
-date-in-requires-2 : tie.Need-date-in-requires-2
-date-in-requires-2 c κs = search needs
-
-write-window-requires : tie.Need-write-window-requires
-write-window-requires c κs = search needs
-
-same-length : tie.Need-same-length
-same-length c = search needs
-
 returns : tie.Need-returns
 returns c =
     let w = c .before .before in
@@ -32,4 +20,4 @@ returns c =
 pub ltd-write-window-spec : {M : Type 1} → statement M
 ltd-write-window-spec =
     tie.close
-    (tie.spec date-in-requires date-in-requires-2 write-window-requires same-length returns)
+    (tie.spec (λ c κs. search needs) (λ c κs. search needs) (λ c κs. search needs) (λ c. search needs) returns)

@@ -30,31 +30,10 @@ loop-holds : tie.Need-loop-holds Inv-loop μ-loop
 unfolding placed
 loop-holds c = (omega arith, ap (λ (k : Claim). replicate 15 k) (c .no-claim .ensures))
 
-cast-claim-at : tie.Need-cast-claim-at Inv-loop μ-loop
-cast-claim-at c = omega arith
-
-mul-claim-at : tie.Need-mul-claim-at Inv-loop μ-loop
-mul-claim-at c = omega arith
-
 claim-at-requires : tie.Need-claim-at-requires Inv-loop μ-loop
 claim-at-requires c κs =
     let s = c .before .before .before .before in
     (omega arith, bytes-all (s .args .numbers .now) (s .args .count) (s .pre .1 .1) (c .before .loop .place) (omega arith))
-
-cast-claims : tie.Need-cast-claims Inv-loop μ-loop
-cast-claims c = omega arith
-
-mul-claims : tie.Need-mul-claims Inv-loop μ-loop
-mul-claims c = omega arith
-
-array-set-from-claims : tie.Need-array-set-from-claims Inv-loop μ-loop
-array-set-from-claims c = omega arith
-
-add-place : tie.Need-add-place Inv-loop μ-loop
-add-place c = omega arith
-
-loop-less : tie.Need-loop-less Inv-loop μ-loop
-loop-less c = omega arith
 
 loop-again : tie.Need-loop-again Inv-loop μ-loop
 loop-again c =
@@ -70,18 +49,5 @@ returns c =
 pub placed-spec : {M : Type 1} → statement M
 placed-spec =
     tie.close
-    (tie.spec
-    Inv-loop
-    μ-loop
-    no-claim-requires
-    loop-holds
-    cast-claim-at
-    mul-claim-at
-    claim-at-requires
-    cast-claims
-    mul-claims
-    array-set-from-claims
-    add-place
-    loop-less
-    loop-again
-    returns)
+    (tie.spec Inv-loop μ-loop no-claim-requires loop-holds (λ c. omega arith) (λ c. omega arith) claim-at-requires (λ c. omega arith)
+    (λ c. omega arith) (λ c. omega arith) (λ c. omega arith) (λ c. omega arith) loop-again returns)

@@ -3,7 +3,7 @@ use Prim.Native.Nat.{_+_}
 use mathlib.Core.List.{[], _∷_, _++_}
 use lib.Seq.{sets, length-sets}
 use Rattle.c_abi.specs.Abi.{claimDates, claimNumbers}
-use Rattle.c_abi.proofs.Stores.{run}
+use Rattle.basics.proofs.Stores.{run}
 use mathlib.Core.Path.{_≡_, refl, ap, _∙_}
 use native.Mathlib.Omega.{arith}
 use lib.ListN.{length, set, length-set}
@@ -18,50 +18,14 @@ room c =
     ap length (c .put-dates .ensures) ∙ length-sets (set (s .out .now) (s .at) (s .claim .number)) (s .at + 1) (claimDates (s .claim))
     ∙ length-set (s .out .now) (s .at) (s .claim .number)
 
-mul-out : tie.Need-mul-out
-mul-out c = search needs
-
-slice-write-out : tie.Need-slice-write-out
-slice-write-out c = search needs
-
-add-put-dates : tie.Need-add-put-dates
-add-put-dates c = search needs
-
 put-dates-requires : tie.Need-put-dates-requires
 put-dates-requires c κs = simp length-set (omega arith)
-
-wide-requires : tie.Need-wide-requires
-wide-requires c κs = search needs
-
-add-out : tie.Need-add-out
-add-out c = search needs
-
-mul-out-2 : tie.Need-mul-out-2
-mul-out-2 c = search needs
 
 slice-write-out-2 : tie.Need-slice-write-out-2
 slice-write-out-2 c = let r = room (c .before .before .before) in omega arith
 
-wide-requires-2 : tie.Need-wide-requires-2
-wide-requires-2 c κs = search needs
-
-add-out-2 : tie.Need-add-out-2
-add-out-2 c = search needs
-
-mul-out-3 : tie.Need-mul-out-3
-mul-out-3 c = search needs
-
 slice-write-out-3 : tie.Need-slice-write-out-3
 slice-write-out-3 c = let r = room (c .before .before .before .before) in simp length-set (omega arith)
-
-wide-requires-3 : tie.Need-wide-requires-3
-wide-requires-3 c κs = search needs
-
-add-out-3 : tie.Need-add-out-3
-add-out-3 c = search needs
-
-mul-out-4 : tie.Need-mul-out-4
-mul-out-4 c = search needs
 
 slice-write-out-4 : tie.Need-slice-write-out-4
 slice-write-out-4 c = let r = room (c .before .before .before .before .before) in simp length-set (omega arith)
@@ -89,22 +53,6 @@ same-length c =
 pub put-claim-spec : {M : Type 1} → statement M
 put-claim-spec =
     tie.close
-    (tie.spec
-    mul-out
-    slice-write-out
-    add-put-dates
-    put-dates-requires
-    wide-requires
-    add-out
-    mul-out-2
-    slice-write-out-2
-    wide-requires-2
-    add-out-2
-    mul-out-3
-    slice-write-out-3
-    wide-requires-3
-    add-out-3
-    mul-out-4
-    slice-write-out-4
-    same-length
-    returns)
+    (tie.spec (λ c. search needs) (λ c. search needs) (λ c. search needs) put-dates-requires (λ c κs. search needs) (λ c. search needs)
+    (λ c. search needs) slice-write-out-2 (λ c κs. search needs) (λ c. search needs) (λ c. search needs) slice-write-out-3 (λ c κs. search needs)
+    (λ c. search needs) (λ c. search needs) slice-write-out-4 same-length returns)

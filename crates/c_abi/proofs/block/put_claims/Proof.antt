@@ -7,7 +7,7 @@ use native.Mathlib.Omega.{arith}
 use lib.ListN.{length, take}
 use Prim.Native.Nat.{ℕ, _+_, _*_, _-_, _≤_}
 use Rattle.c_abi.specs.Abi.{claimNumbers, claimsNumbers}
-use Rattle.c_abi.proofs.Stores.{run}
+use Rattle.basics.proofs.Stores.{run}
 use Rattle.c_abi.proofs.Claims.{claims-end, claims-more, take-all}
 use Rattle.c_abi.proofs.block.put_claims.Statement.{statement}
 use Rattle.c_abi.proofs.block.put_claims.Tie as tie
@@ -21,27 +21,6 @@ abbrev μ-loop : tie.MeasureT-loop
 loop-holds : tie.Need-loop-holds Inv-loop μ-loop
 unfolding claimsNumbers
 loop-holds c = (omega arith, refl, c .before .pre)
-
-mul-put-claim : tie.Need-mul-put-claim Inv-loop μ-loop
-mul-put-claim c = omega arith
-
-array-copy-out-put-claim : tie.Need-array-copy-out-put-claim Inv-loop μ-loop
-array-copy-out-put-claim c = omega arith
-
-mul-put-claim-2 : tie.Need-mul-put-claim-2 Inv-loop μ-loop
-mul-put-claim-2 c = omega arith
-
-add-put-claim : tie.Need-add-put-claim Inv-loop μ-loop
-add-put-claim c = omega arith
-
-put-claim-requires : tie.Need-put-claim-requires Inv-loop μ-loop
-put-claim-requires c κs = omega arith
-
-add-place : tie.Need-add-place Inv-loop μ-loop
-add-place c = omega arith
-
-loop-less : tie.Need-loop-less Inv-loop μ-loop
-loop-less c = omega arith
 
 loop-again : tie.Need-loop-again Inv-loop μ-loop
 loop-again c =
@@ -76,17 +55,5 @@ returns c =
 pub put-claims-spec : {M : Type 1} → statement M
 put-claims-spec =
     tie.close
-    (tie.spec
-    Inv-loop
-    μ-loop
-    loop-holds
-    mul-put-claim
-    array-copy-out-put-claim
-    mul-put-claim-2
-    add-put-claim
-    put-claim-requires
-    add-place
-    loop-less
-    loop-again
-    same-length
-    returns)
+    (tie.spec Inv-loop μ-loop loop-holds (λ c. omega arith) (λ c. omega arith) (λ c. omega arith) (λ c. omega arith) (λ c κs. omega arith)
+    (λ c. omega arith) (λ c. omega arith) loop-again same-length returns)

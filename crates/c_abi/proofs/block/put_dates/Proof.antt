@@ -18,53 +18,14 @@ four l n p q r s =
     let n3 : n + 3 ≡ suc (suc (suc n)) = omega arith in
     λ i. set (set (set (set l n (p i)) (n1 i) (q i)) (n2 i) (r i)) (n3 i) (s i)
 
-date-number-requires : tie.Need-date-number-requires
-date-number-requires c κs = search needs
-
-mul-out : tie.Need-mul-out
-mul-out c = search needs
-
-slice-write-out : tie.Need-slice-write-out
-slice-write-out c = search needs
-
-date-number-requires-2 : tie.Need-date-number-requires-2
-date-number-requires-2 c κs = search needs
-
-add-out : tie.Need-add-out
-add-out c = search needs
-
-mul-out-2 : tie.Need-mul-out-2
-mul-out-2 c = search needs
-
 slice-write-out-2 : tie.Need-slice-write-out-2
 slice-write-out-2 c = simp length-set (omega arith)
-
-date-number-requires-3 : tie.Need-date-number-requires-3
-date-number-requires-3 c κs = search needs
-
-add-out-2 : tie.Need-add-out-2
-add-out-2 c = search needs
-
-mul-out-3 : tie.Need-mul-out-3
-mul-out-3 c = search needs
 
 slice-write-out-3 : tie.Need-slice-write-out-3
 slice-write-out-3 c = simp length-set (omega arith)
 
-date-number-requires-4 : tie.Need-date-number-requires-4
-date-number-requires-4 c κs = search needs
-
-add-out-3 : tie.Need-add-out-3
-add-out-3 c = search needs
-
-mul-out-4 : tie.Need-mul-out-4
-mul-out-4 c = search needs
-
 slice-write-out-4 : tie.Need-slice-write-out-4
 slice-write-out-4 c = simp length-set (omega arith)
-
-same-length : tie.Need-same-length
-same-length c = search needs
 
 returns : tie.Need-returns
 returns c =
@@ -77,21 +38,6 @@ returns c =
 pub put-dates-spec : {M : Type 1} → statement M
 put-dates-spec =
     tie.close
-    (tie.spec
-    date-number-requires
-    mul-out
-    slice-write-out
-    date-number-requires-2
-    add-out
-    mul-out-2
-    slice-write-out-2
-    date-number-requires-3
-    add-out-2
-    mul-out-3
-    slice-write-out-3
-    date-number-requires-4
-    add-out-3
-    mul-out-4
-    slice-write-out-4
-    same-length
-    returns)
+    (tie.spec (λ c κs. search needs) (λ c. search needs) (λ c. search needs) (λ c κs. search needs) (λ c. search needs) (λ c. search needs)
+    slice-write-out-2 (λ c κs. search needs) (λ c. search needs) (λ c. search needs) slice-write-out-3 (λ c κs. search needs) (λ c. search needs)
+    (λ c. search needs) slice-write-out-4 (λ c. search needs) returns)

@@ -25,20 +25,8 @@ module _ (old : List ℕ) (m a : BlockRead) (e : m ≡ a) where
       let k : l ≡ readStored old m = rw (eq-eqb (m .refused) 0 z) q in
       (sym z ∙ ap (λ (r : BlockRead). r .refused) e, k ∙ ap (readStored old) e)
 
-read-requires : tie.Need-read-requires
-read-requires c κs = search needs
-
 returns : tie.Need-returns
 returns c = kept (c .before .before .before .before .before .before .before .args .out .now) _ _ (c .before .before .before .before .read .ensures) (c .if1 .taken)
-
-cast-out : tie.Need-cast-out
-cast-out c = search needs
-
-slice-write-out : tie.Need-slice-write-out
-slice-write-out c = search needs
-
-put-claims-requires : tie.Need-put-claims-requires
-put-claims-requires c κs = search needs
 
 same-length : tie.Need-same-length
 same-length c =
@@ -58,11 +46,4 @@ returns-2 c =
 pub read-claims-spec : {M : Type 1} → statement M
 read-claims-spec =
     tie.close
-    (tie.spec
-    read-requires
-    returns
-    cast-out
-    slice-write-out
-    put-claims-requires
-    same-length
-    returns-2)
+    (tie.spec (λ c κs. search needs) returns (λ c. search needs) (λ c. search needs) (λ c κs. search needs) same-length returns-2)

@@ -4,12 +4,13 @@ use native.Mathlib.Omega.{arith}
 use lib.ListN.{set, length-set}
 use Prim.Native.Nat.{ℕ}
 use mathlib.Core.List.{List}
-use Rattle.calendar.specs.Calendar.{pick}
-use Rattle.calendar.proofs.Tests.{by}
-use Rattle.claim_file.specs.declared.Window.{Window}
-use Rattle.claim_file.specs.declared.MaybeWindow.{MaybeWindow}
-use Rattle.claim_file.specs.declared.MaybeWindow.the-variants.{Known, Refused}
-use Rattle.claim_file.specs.Block.{dateFrom, windowBlock, blockSound}
+use Rattle.basics.specs.Pick.{pick}
+use Rattle.basics.proofs.Tests.{by}
+use Rattle.claim_file.specs.declared.WindowDates.{WindowDates}
+use Rattle.claim_file.specs.declared.MaybeDates.{MaybeDates}
+use Rattle.claim_file.specs.declared.MaybeDates.the-variants.{Known, Refused}
+use Rattle.claim_file.specs.Bytes.{dateFrom}
+use Rattle.claim_file.specs.Block.{windowBlock, blockSound}
 use Rattle.claim_file.specs.Answers.{windowOf, blockCheck}
 use Rattle.c_abi.specs.Abi.{dateNumber, windowStored}
 use borrow.Author.Needs.{needs}
@@ -17,7 +18,7 @@ use Rattle.c_abi.proofs.block.read_window.Statement.{statement}
 use Rattle.c_abi.proofs.block.read_window.Tie as tie
 
 -- the number refused
-number : MaybeWindow → ℕ
+number : MaybeDates → ℕ
 number (Known w) = 0
 number (Refused n) = n
 
@@ -25,8 +26,8 @@ checked : (bytes : List ℕ) → number (windowOf bytes) ≡ blockCheck 0 bytes
 unfolding number windowOf blockCheck blockSound
 checked bytes = by (windowBlock bytes) (λ t. number (pick t (Known (record { first = dateFrom bytes 16; last = dateFrom bytes 20 })) (Refused 11)) ≡ pick t 0 11) (λ e. refl) (λ e. refl)
 
-module _ (bytes old : List ℕ) (m : MaybeWindow) (answer : m ≡ windowOf bytes) where
-  known : (w : Window) (a b : ℕ) → m ≡ Known w → a ≡ dateNumber (w .first) → b ≡ dateNumber (w .last)
+module _ (bytes old : List ℕ) (m : MaybeDates) (answer : m ≡ windowOf bytes) where
+  known : (w : WindowDates) (a b : ℕ) → m ≡ Known w → a ≡ dateNumber (w .first) → b ≡ dateNumber (w .last)
       → (0 ≡ blockCheck 0 bytes) × (set (set (set old 0 0) 1 a) 2 b ≡ windowStored old (windowOf bytes))
   unfolding number windowStored
   known w a b e p q = (
@@ -38,32 +39,11 @@ module _ (bytes old : List ℕ) (m : MaybeWindow) (answer : m ≡ windowOf bytes
   unfolding number windowStored
   refused n e = (ap number (sym e ∙ answer) ∙ checked bytes, ap (windowStored old) (sym e ∙ answer))
 
-read-window-requires : tie.Need-read-window-requires
-read-window-requires c κs = search needs
-
-enum-known-window : tie.Need-enum-known-window
-enum-known-window c = search needs
-
-slice-write-out : tie.Need-slice-write-out
-slice-write-out c = search needs
-
-date-number-requires : tie.Need-date-number-requires
-date-number-requires c κs = search needs
-
 slice-write-out-2 : tie.Need-slice-write-out-2
 slice-write-out-2 c = simp length-set (omega arith)
 
-date-number-requires-2 : tie.Need-date-number-requires-2
-date-number-requires-2 c κs = search needs
-
 slice-write-out-3 : tie.Need-slice-write-out-3
 slice-write-out-3 c = simp length-set (omega arith)
-
-enum-known-number : tie.Need-enum-known-number
-enum-known-number c = search needs
-
-same-length : tie.Need-same-length
-same-length c = search needs
 
 returns : tie.Need-returns
 returns c =
@@ -80,15 +60,5 @@ returns-2 c =
 pub read-window-spec : {M : Type 1} → statement M
 read-window-spec =
     tie.close
-    (tie.spec
-    read-window-requires
-    enum-known-window
-    slice-write-out
-    date-number-requires
-    slice-write-out-2
-    date-number-requires-2
-    slice-write-out-3
-    enum-known-number
-    same-length
-    returns
-    returns-2)
+    (tie.spec (λ c κs. search needs) (λ c. search needs) (λ c. search needs) (λ c κs. search needs) slice-write-out-2 (λ c κs. search needs)
+    slice-write-out-3 (λ c. search needs) (λ c. search needs) returns returns-2)

@@ -29,32 +29,8 @@ module _ (old : List ℕ) (m a : MaybeFactor) (h : 3 ≤ length old) (e : m ≡ 
 returns : tie.Need-returns
 returns c = short 3 _ _ _ (c .if1 .taken)
 
-factor-requires : tie.Need-factor-requires
-factor-requires c κs = search needs
-
-enum-known-factor : tie.Need-enum-known-factor
-enum-known-factor c = search needs
-
-cast-out : tie.Need-cast-out
-cast-out c = search needs
-
-slice-write-out : tie.Need-slice-write-out
-slice-write-out c = search needs
-
-cast-out-2 : tie.Need-cast-out-2
-cast-out-2 c = search needs
-
 slice-write-out-2 : tie.Need-slice-write-out-2
 slice-write-out-2 c = simp length-set (omega arith)
-
-slice-write-out-3 : tie.Need-slice-write-out-3
-slice-write-out-3 c = search needs
-
-enum-known-number : tie.Need-enum-known-number
-enum-known-number c = search needs
-
-same-length : tie.Need-same-length
-same-length c = search needs
 
 returns-2 : tie.Need-returns-2
 returns-2 c =
@@ -73,16 +49,5 @@ returns-3 c =
 pub ltd-factor-spec : {M : Type 1} → statement M
 ltd-factor-spec =
     tie.close
-    (tie.spec
-    returns
-    factor-requires
-    enum-known-factor
-    cast-out
-    slice-write-out
-    cast-out-2
-    slice-write-out-2
-    slice-write-out-3
-    enum-known-number
-    same-length
-    returns-2
-    returns-3)
+    (tie.spec returns (λ c κs. search needs) (λ c. search needs) (λ c. search needs) (λ c. search needs) (λ c. search needs) slice-write-out-2
+    (λ c. search needs) (λ c. search needs) (λ c. search needs) returns-2 returns-3)

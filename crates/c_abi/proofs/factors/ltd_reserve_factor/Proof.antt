@@ -44,36 +44,6 @@ returns c = not-five _ _ _ (c .if1 .taken)
 returns-2 : tie.Need-returns-2
 returns-2 c = no-room _ _ _ (c .before .if1 .left) (c .if2 .taken)
 
-shared-slice-read-t15 : tie.Need-shared-slice-read-t15
-shared-slice-read-t15 c = search needs
-
-shared-slice-read-t17 : tie.Need-shared-slice-read-t17
-shared-slice-read-t17 c = search needs
-
-shared-slice-read-t19 : tie.Need-shared-slice-read-t19
-shared-slice-read-t19 c = search needs
-
-shared-slice-read-t21 : tie.Need-shared-slice-read-t21
-shared-slice-read-t21 c = search needs
-
-shared-slice-read-t23 : tie.Need-shared-slice-read-t23
-shared-slice-read-t23 c = search needs
-
-reserve-factor-requires : tie.Need-reserve-factor-requires
-reserve-factor-requires c κs = search needs
-
-enum-known-factor : tie.Need-enum-known-factor
-enum-known-factor c = search needs
-
-slice-write-out : tie.Need-slice-write-out
-slice-write-out c = search needs
-
-enum-known-number : tie.Need-enum-known-number
-enum-known-number c = search needs
-
-same-length : tie.Need-same-length
-same-length c = search needs
-
 returns-3 : tie.Need-returns-3
 unfolding reserveNumber reserveStored
 returns-3 c =
@@ -101,18 +71,5 @@ returns-4 c =
 pub ltd-reserve-factor-spec : {M : Type 1} → statement M
 ltd-reserve-factor-spec =
     tie.close
-    (tie.spec
-    returns
-    returns-2
-    shared-slice-read-t15
-    shared-slice-read-t17
-    shared-slice-read-t19
-    shared-slice-read-t21
-    shared-slice-read-t23
-    reserve-factor-requires
-    enum-known-factor
-    slice-write-out
-    enum-known-number
-    same-length
-    returns-3
-    returns-4)
+    (tie.spec returns returns-2 (λ c. search needs) (λ c. search needs) (λ c. search needs) (λ c. search needs) (λ c. search needs)
+    (λ c κs. search needs) (λ c. search needs) (λ c. search needs) (λ c. search needs) (λ c. search needs) returns-3 returns-4)

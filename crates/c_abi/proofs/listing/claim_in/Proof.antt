@@ -4,18 +4,6 @@ use borrow.Author.Needs.{needs}
 use Rattle.c_abi.proofs.listing.claim_in.Statement.{statement}
 use Rattle.c_abi.proofs.listing.claim_in.Tie as tie
 
-date-in-requires : tie.Need-date-in-requires
-date-in-requires c κs = search needs
-
-date-in-requires-2 : tie.Need-date-in-requires-2
-date-in-requires-2 c κs = search needs
-
-date-in-requires-3 : tie.Need-date-in-requires-3
-date-in-requires-3 c κs = search needs
-
-date-in-requires-4 : tie.Need-date-in-requires-4
-date-in-requires-4 c κs = search needs
-
 returns : tie.Need-returns
 unfolding claimIn
 returns c =
@@ -38,4 +26,4 @@ returns c =
 pub claim-in-spec : {M : Type 1} → statement M
 claim-in-spec =
     tie.close
-    (tie.spec date-in-requires date-in-requires-2 date-in-requires-3 date-in-requires-4 returns)
+    (tie.spec (λ c κs. search needs) (λ c κs. search needs) (λ c κs. search needs) (λ c κs. search needs) returns)

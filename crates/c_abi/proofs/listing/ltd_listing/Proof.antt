@@ -22,36 +22,6 @@ module _ (old l : List ℤ) (b b′ e e′ : Date) (k k′ : Claim) (m : Listed)
     left ∙ (λ i. listAfter (hb i) (he i) (hk i) old),
   )
 
-claim-in-requires : tie.Need-claim-in-requires
-claim-in-requires c κs = search needs
-
-date-in-requires : tie.Need-date-in-requires
-date-in-requires c κs = search needs
-
-date-in-requires-2 : tie.Need-date-in-requires-2
-date-in-requires-2 c κs = search needs
-
-list-months-requires : tie.Need-list-months-requires
-list-months-requires c κs = search needs
-
-enum-known-months : tie.Need-enum-known-months
-enum-known-months c = search needs
-
-cast-result : tie.Need-cast-result
-cast-result c = search needs
-
-enum-known-refused : tie.Need-enum-known-refused
-enum-known-refused c = search needs
-
-cast-result-2 : tie.Need-cast-result-2
-cast-result-2 c = search needs
-
-add-result : tie.Need-add-result
-add-result c = search needs
-
-same-length : tie.Need-same-length
-same-length c = search needs
-
 returns : tie.Need-returns
 unfolding listedNumber
 returns c =
@@ -60,9 +30,6 @@ returns c =
     let e = l .before .before in
     answers (e .before .before .before .args .list .now) _ _ _ _ _ _ _ _ (e .before .date-in .ensures) (e .date-in2 .ensures) (e .before .before .claim-in .ensures)
     (l .list-months .ensures .0) (l .list-months .ensures .1) _ (ap listedNumber (sym (m .months .given .1)))
-
-same-length-2 : tie.Need-same-length-2
-same-length-2 c = search needs
 
 returns-2 : tie.Need-returns-2
 unfolding listedNumber
@@ -76,17 +43,5 @@ returns-2 c =
 pub ltd-listing-spec : {M : Type 1} → statement M
 ltd-listing-spec =
     tie.close
-    (tie.spec
-    claim-in-requires
-    date-in-requires
-    date-in-requires-2
-    list-months-requires
-    enum-known-months
-    cast-result
-    enum-known-refused
-    cast-result-2
-    add-result
-    same-length
-    returns
-    same-length-2
-    returns-2)
+    (tie.spec (λ c κs. search needs) (λ c κs. search needs) (λ c κs. search needs) (λ c κs. search needs) (λ c. search needs) (λ c. search needs)
+    (λ c. search needs) (λ c. search needs) (λ c. search needs) (λ c. search needs) returns (λ c. search needs) returns-2)

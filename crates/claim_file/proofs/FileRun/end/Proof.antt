@@ -1,5 +1,4 @@
 -- `FileRun::end` meets its contract. Assumes nothing.
-use mathlib.Core.Path.{sym, _∙_}
 use mathlib.Core.Bool.{and-false}
 use borrow.Author.Needs.{needs}
 use borrow.Author.Tests.{eq-eqb, ne-eqb}
@@ -15,12 +14,10 @@ returns-2 : tie.Need-returns-2
 unfolding ended
 returns-2 c = simp (ne-eqb _ _ (c .if2 .taken), and-false)
 
-stopped-requires : tie.Need-stopped-requires
-stopped-requires c κs = search needs
-
 returns-3 : tie.Need-returns-3
 unfolding ended
 returns-3 c = rw (eq-eqb _ _ (c .before .before .before .before .if1 .left), eq-eqb _ _ (c .before .before .if2 .left)) (c .stopped .ensures)
 
 pub end-spec : {M : Type 1} → statement M
-end-spec = tie.close (tie.spec returns returns-2 stopped-requires returns-3)
+end-spec = tie.close
+    (tie.spec returns returns-2 (λ c κs. search needs) returns-3)

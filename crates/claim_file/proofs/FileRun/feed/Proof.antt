@@ -12,7 +12,8 @@ use Rattle.claim_months.specs.declared.Claim.{Claim}
 use Rattle.study.specs.declared.Study.{Study}
 use Rattle.study.specs.Study.{added}
 use Rattle.claim_file.specs.declared.FileRun.{FileRun}
-use Rattle.claim_file.specs.Block.{byteAt, blockClaim, claimCount}
+use Rattle.claim_file.specs.Bytes.{byteAt}
+use Rattle.claim_file.specs.Block.{blockClaim, claimCount}
 use Rattle.claim_file.specs.Run.{goesOn, stops, claimsFrom, fed}
 use Rattle.claim_file.proofs.Runs.{Sound, sound-due, begun-so, part-is, fed-refused, fed-none, fed-stops, fed-claims, goes-on-so, stops-refused, claims-start, claims-on, claims-off, claims-end}
 use Rattle.claim_file.proofs.FileRun.feed.Statement.{statement}
@@ -92,24 +93,6 @@ returns c = sym (fed-refused _ _ _ (c .if1 .taken))
 file-holds : tie.Need-file-holds Inv-loop μ-loop Inv-file μ-file
 file-holds c = (omega arith, c .if1 .left, refl)
 
-block-end-requires : tie.Need-block-end-requires Inv-loop μ-loop Inv-file μ-file
-block-end-requires c κs = omega arith
-
-sub-part : tie.Need-sub-part Inv-loop μ-loop Inv-file μ-file
-sub-part c = omega arith
-
-part-part-start : tie.Need-part-part-start Inv-loop μ-loop Inv-file μ-file
-part-part-start c = omega arith
-
-part-part-end : tie.Need-part-part-end Inv-loop μ-loop Inv-file μ-file
-part-part-end c = omega arith
-
-begin-requires : tie.Need-begin-requires Inv-loop μ-loop Inv-file μ-file
-begin-requires c κs = search needs
-
-stopped-requires : tie.Need-stopped-requires Inv-loop μ-loop Inv-file μ-file
-stopped-requires c κs = search needs
-
 shared-slice-read-count : tie.Need-shared-slice-read-count Inv-loop μ-loop Inv-file μ-file
 shared-slice-read-count c = let s = sound-so (c .before) .length-so in omega arith
 
@@ -119,20 +102,11 @@ loop-holds c = (refl, omega arith, claims-start _ _ _ _ _)
 claim-at-requires : tie.Need-claim-at-requires Inv-loop μ-loop Inv-file μ-file
 claim-at-requires c κs = (sound-so (c .before .before .before) .length-so, place-so c)
 
-add-requires : tie.Need-add-requires Inv-loop μ-loop Inv-file μ-file
-add-requires c κs = search needs
-
 add-stopped : tie.Need-add-stopped Inv-loop μ-loop Inv-file μ-file
 add-stopped c = let p = place-so (c .before .before .before .before .before) in omega arith
 
-stopped-requires-2 : tie.Need-stopped-requires-2 Inv-loop μ-loop Inv-file μ-file
-stopped-requires-2 c κs = search needs
-
 add-place : tie.Need-add-place Inv-loop μ-loop Inv-file μ-file
 add-place c = let p = place-so (c .before .before .before .before .before) in omega arith
-
-loop-less : tie.Need-loop-less Inv-loop μ-loop Inv-file μ-file
-loop-less c = omega arith
 
 loop-again : tie.Need-loop-again Inv-loop μ-loop Inv-file μ-file
 loop-again c =
@@ -204,31 +178,6 @@ returns-4 c =
 pub feed-spec : {M : Type 1} → statement M
 feed-spec =
     tie.close
-    (tie.spec
-    Inv-loop
-    μ-loop
-    Inv-file
-    μ-file
-    returns
-    file-holds
-    block-end-requires
-    sub-part
-    part-part-start
-    part-part-end
-    begin-requires
-    stopped-requires
-    shared-slice-read-count
-    loop-holds
-    claim-at-requires
-    add-requires
-    add-stopped
-    stopped-requires-2
-    add-place
-    loop-less
-    loop-again
-    continued-requires
-    file-less
-    file-again
-    returns-2
-    returns-3
-    returns-4)
+    (tie.spec Inv-loop μ-loop Inv-file μ-file returns file-holds (λ c κs. omega arith) (λ c. omega arith) (λ c. omega arith) (λ c. omega arith)
+    (λ c κs. search needs) (λ c κs. search needs) shared-slice-read-count loop-holds claim-at-requires (λ c κs. search needs) add-stopped
+    (λ c κs. search needs) add-place (λ c. omega arith) loop-again continued-requires file-less file-again returns-2 returns-3 returns-4)

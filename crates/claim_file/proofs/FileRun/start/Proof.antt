@@ -1,23 +1,18 @@
 -- `FileRun::start` meets its contract: an opening at no date is refused and gives the fresh study. Assumes nothing.
 use mathlib.Core.Path.{_≡_, refl, ap, _∙_}
 use borrow.Author.Needs.{needs}
-use Rattle.calendar.specs.Calendar.{isDate}
 use Rattle.calendar.specs.declared.Date.{Date}
-use Rattle.claim_months.specs.Listing.{datesWindow}
-use Rattle.study.specs.declared.Study.{Study}
+use Rattle.claim_months.specs.declared.MaybeWindow.{MaybeWindow}
+use Rattle.claim_months.proofs.DateWindows.{windowed, no-year}
 use Rattle.study.specs.declared.Answer.{Answer}
-use Rattle.study.specs.Study.{fresh, opened}
-use Rattle.claim_file.specs.declared.FileRun.{FileRun}
+use Rattle.study.specs.Study.{fresh, firstDayAlone, openedWith, opened}
 use Rattle.claim_file.specs.Run.{started}
 use Rattle.claim_file.proofs.FileRun.start.Statement.{statement}
 use Rattle.claim_file.proofs.FileRun.start.Tie as tie
 
-none-opened : (d e : Date) → d .year ≡ 0 → opened d e .study ≡ fresh 0 0
-unfolding opened datesWindow isDate
-none-opened d e h = rw h
-
-open-requires : tie.Need-open-requires
-open-requires c κs = search needs
+none-opened : (d e : Date) → d .year ≡ 0 → opened d e .study ≡ fresh firstDayAlone
+unfolding opened openedWith
+none-opened d e h = windowed d e (λ (m : MaybeWindow). openedWith m .study ≡ fresh firstDayAlone) (λ q. absurd (no-year d e h q)) (λ q. refl)
 
 returns : tie.Need-returns
 unfolding started
@@ -26,4 +21,5 @@ returns c =
     λ i. record { study = e i; due = 0; refused = 0; block = 0; place = 0 }
 
 pub start-spec : {M : Type 1} → statement M
-start-spec = tie.close (tie.spec open-requires returns)
+start-spec = tie.close
+    (tie.spec (λ c κs. search needs) returns)

@@ -1,12 +1,9 @@
 -- `check` meets its contract. Assumes nothing.
-use mathlib.Core.Path.{_≡_, refl, sym, ap, _∙_}
+use mathlib.Core.Path.{sym, _∙_}
 use Rattle.claim_file.specs.Answers.{blockCheck}
 use borrow.Author.Needs.{needs}
 use Rattle.claim_file.proofs.blocks.check.Statement.{statement}
 use Rattle.claim_file.proofs.blocks.check.Tie as tie
-
-is-sound-requires : tie.Need-is-sound-requires
-is-sound-requires c κs = search needs
 
 returns : tie.Need-returns
 unfolding blockCheck
@@ -17,4 +14,5 @@ unfolding blockCheck
 returns-2 c = rw (sym (c .before .is-sound .ensures) ∙ c .if1 .left)
 
 pub check-spec : {M : Type 1} → statement M
-check-spec = tie.close (tie.spec is-sound-requires returns returns-2)
+check-spec = tie.close
+    (tie.spec (λ c κs. search needs) returns returns-2)

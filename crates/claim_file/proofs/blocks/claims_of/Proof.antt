@@ -1,8 +1,8 @@
 -- `claims_of` meets its contract. The loop's invariant: the places passed hold their claims, the others zeros. Assumes nothing.
 use Rattle.claim_file.specs.Block.{claimCount}
 use native.Mathlib.Omega.{arith}
-use Prim.Native.Nat.{_+_, _-_, _≤_}
-use mathlib.Core.Path.{_≡_, refl, sym, ap, _∙_}
+use Prim.Native.Nat.{_-_, _≤_}
+use mathlib.Core.Path.{_≡_}
 use Rattle.claim_file.proofs.Reading.{Placed, placed-none, placed-more, placed-all}
 use Rattle.claim_file.proofs.blocks.claims_of.Statement.{statement}
 use Rattle.claim_file.proofs.blocks.claims_of.Tie as tie
@@ -19,24 +19,6 @@ no-claim-requires c κs = tt
 loop-holds : tie.Need-loop-holds Inv-loop μ-loop
 loop-holds c = (omega arith, placed-none _ _ (c .no-claim .ensures))
 
-claim-at-requires : tie.Need-claim-at-requires Inv-loop μ-loop
-claim-at-requires c κs = omega arith
-
-cast-claims : tie.Need-cast-claims Inv-loop μ-loop
-cast-claims c = omega arith
-
-mul-claims : tie.Need-mul-claims Inv-loop μ-loop
-mul-claims c = omega arith
-
-array-set-from-claims : tie.Need-array-set-from-claims Inv-loop μ-loop
-array-set-from-claims c = omega arith
-
-add-place : tie.Need-add-place Inv-loop μ-loop
-add-place c = omega arith
-
-loop-less : tie.Need-loop-less Inv-loop μ-loop
-loop-less c = omega arith
-
 loop-again : tie.Need-loop-again Inv-loop μ-loop
 loop-again c =
     let l = c .before .before .loop in
@@ -52,16 +34,5 @@ returns c =
 pub claims-of-spec : {M : Type 1} → statement M
 claims-of-spec =
     tie.close
-    (tie.spec
-    Inv-loop
-    μ-loop
-    no-claim-requires
-    loop-holds
-    claim-at-requires
-    cast-claims
-    mul-claims
-    array-set-from-claims
-    add-place
-    loop-less
-    loop-again
-    returns)
+    (tie.spec Inv-loop μ-loop no-claim-requires loop-holds (λ c κs. omega arith) (λ c. omega arith) (λ c. omega arith) (λ c. omega arith)
+    (λ c. omega arith) (λ c. omega arith) loop-again returns)

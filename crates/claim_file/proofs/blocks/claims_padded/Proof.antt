@@ -1,10 +1,10 @@
 -- `claims_padded` meets its contract. The loop's invariant: the claims that are left decide. Assumes nothing.
 use native.Mathlib.Omega.{arith}
-use Prim.Native.Nat.{suc, _+_, _-_, _≤_}
+use Prim.Native.Nat.{_-_, _≤_}
 use mathlib.Core.Path.{_≡_, refl, sym, ap, _∙_}
 use borrow.Author.Tests.{not-true, not-false}
 use Rattle.claim_file.specs.Block.{claimsPadded}
-use Rattle.claim_file.proofs.Parts.{padded-on, padded-off}
+use Rattle.claim_file.proofs.RecordParts.{padded-on, padded-off}
 use Rattle.claim_file.proofs.blocks.claims_padded.Statement.{statement}
 use Rattle.claim_file.proofs.blocks.claims_padded.Tie as tie
 
@@ -17,33 +17,15 @@ abbrev μ-loop : tie.MeasureT-loop
 loop-holds : tie.Need-loop-holds Inv-loop μ-loop
 loop-holds c = (omega arith, refl)
 
-sub-left : tie.Need-sub-left Inv-loop μ-loop
-sub-left c = omega arith
-
-mul-all-zero : tie.Need-mul-all-zero Inv-loop μ-loop
-mul-all-zero c = omega arith
-
-add-all-zero : tie.Need-add-all-zero Inv-loop μ-loop
-add-all-zero c = omega arith
-
-add-all-zero-2 : tie.Need-add-all-zero-2 Inv-loop μ-loop
-add-all-zero-2 c = omega arith
-
-all-zero-requires : tie.Need-all-zero-requires Inv-loop μ-loop
-all-zero-requires c κs = omega arith
-
 returns : tie.Need-returns Inv-loop μ-loop
 returns c =
     let l = c .before .before .before .loop in
-    sym (l .inv .1 ∙ padded-off _ (l .left) (omega arith) (sym (c .before .all-zero .ensures) ∙ not-true _ (c .if1 .taken)))
-
-loop-less : tie.Need-loop-less Inv-loop μ-loop
-loop-less c = omega arith
+    sym (l .inv .1 ∙ padded-off _ (l .left) (omega arith) (sym (c .before .is-padded .ensures) ∙ not-true _ (c .if1 .taken)))
 
 loop-again : tie.Need-loop-again Inv-loop μ-loop
 loop-again c =
     let l = c .before .before .before .loop in
-    (omega arith, l .inv .1 ∙ padded-on _ (l .left) (omega arith) (sym (c .before .all-zero .ensures) ∙ not-false _ (c .if1 .left)))
+    (omega arith, l .inv .1 ∙ padded-on _ (l .left) (omega arith) (sym (c .before .is-padded .ensures) ∙ not-false _ (c .if1 .left)))
 
 returns-2 : tie.Need-returns-2 Inv-loop μ-loop
 unfolding claimsPadded
@@ -55,16 +37,5 @@ returns-2 c =
 pub claims-padded-spec : {M : Type 1} → statement M
 claims-padded-spec =
     tie.close
-    (tie.spec
-    Inv-loop
-    μ-loop
-    loop-holds
-    sub-left
-    mul-all-zero
-    add-all-zero
-    add-all-zero-2
-    all-zero-requires
-    returns
-    loop-less
-    loop-again
-    returns-2)
+    (tie.spec Inv-loop μ-loop loop-holds (λ c. omega arith) (λ c. omega arith) (λ c. omega arith) (λ c κs. omega arith) returns
+    (λ c. omega arith) loop-again returns-2)

@@ -1,11 +1,12 @@
 -- `is_claim_block` meets its contract: each return by the tests that led there. Assumes nothing.
 use native.Mathlib.Omega.{arith}
-use mathlib.Core.Path.{_≡_, refl, sym, ap, _∙_}
+use mathlib.Core.Path.{_≡_, refl, sym, _∙_}
 use mathlib.Core.Bool.{true}
 use lib.Dec.{leb}
 use borrow.Author.Tests.{le-leb, lt-leb, not-true, not-false}
-use Rattle.claim_file.specs.Block.{byteAt, claimCount, framed}
-use Rattle.claim_file.proofs.Tests.{framed-length, claims-are}
+use Rattle.claim_file.specs.Bytes.{byteAt}
+use Rattle.claim_file.specs.Block.{claimCount, framed}
+use Rattle.claim_file.proofs.BlockTests.{framed-length, claims-are}
 use borrow.Author.Needs.{needs}
 use Rattle.claim_file.proofs.blocks.is_claim_block.Statement.{statement}
 use Rattle.claim_file.proofs.blocks.is_claim_block.Tie as tie
@@ -16,9 +17,6 @@ is-framed c = sym (c .before .is-framed .ensures) ∙ not-false _ (c .if1 .left)
 few : (c : tie.Else2) → leb (claimCount (c .before .before .before .before .before .args .bytes .now)) 15 ≡ true
 unfolding claimCount byteAt
 few c = le-leb (claimCount (c .before .before .before .before .before .args .bytes .now)) 15 (omega arith)
-
-is-framed-requires : tie.Need-is-framed-requires
-is-framed-requires c κs = search needs
 
 returns : tie.Need-returns
 returns c = sym (claims-are _ _ (sym (c .before .is-framed .ensures) ∙ not-true _ (c .if1 .taken)) refl refl refl)
@@ -40,24 +38,6 @@ returns-3 c =
     sym (claims-are _ _ (is-framed (d .before .before)) (few d)
     (sym (c .before .claims-padded .ensures) ∙ not-true _ (c .if3 .taken)) refl)
 
-cast-all-zero : tie.Need-cast-all-zero
-cast-all-zero c = search needs
-
-mul-all-zero : tie.Need-mul-all-zero
-mul-all-zero c = search needs
-
-add-all-zero : tie.Need-add-all-zero
-add-all-zero c = search needs
-
-cast-all-zero-2 : tie.Need-cast-all-zero-2
-cast-all-zero-2 c = search needs
-
-mul-all-zero-2 : tie.Need-mul-all-zero-2
-mul-all-zero-2 c = search needs
-
-sub-all-zero : tie.Need-sub-all-zero
-sub-all-zero c = search needs
-
 all-zero-requires : tie.Need-all-zero-requires
 all-zero-requires c κs = omega (arith, framed-length _ _ (is-framed (c .before .before .before .before)))
 
@@ -71,18 +51,5 @@ returns-4 c =
 pub is-claim-block-spec : {M : Type 1} → statement M
 is-claim-block-spec =
     tie.close
-    (tie.spec
-    is-framed-requires
-    returns
-    shared-slice-read-count
-    returns-2
-    claims-padded-requires
-    returns-3
-    cast-all-zero
-    mul-all-zero
-    add-all-zero
-    cast-all-zero-2
-    mul-all-zero-2
-    sub-all-zero
-    all-zero-requires
-    returns-4)
+    (tie.spec (λ c κs. search needs) returns shared-slice-read-count returns-2 claims-padded-requires returns-3 (λ c. search needs)
+    (λ c. search needs) (λ c. search needs) (λ c. search needs) (λ c. search needs) (λ c. search needs) all-zero-requires returns-4)

@@ -3,10 +3,10 @@ use Prim.Native.Nat.{ℕ, _%_}
 use lib.ListN.{length}
 use lib.Dec.{eqb}
 use mathlib.Core.Bool.{true}
-use Rattle.claim_file.specs.Block.{twoAt}
+use Rattle.claim_file.specs.Bytes.{twoAt}
 use mathlib.Core.Path.{_≡_, refl, sym, ap, _∙_}
 use borrow.Author.Tests.{eq-eqb, ne-eqb}
-use Rattle.claim_file.proofs.Tests.{framed-is}
+use Rattle.claim_file.proofs.BlockTests.{framed-is}
 use borrow.Author.Needs.{needs}
 use Rattle.claim_file.proofs.blocks.is_framed.Statement.{statement}
 use Rattle.claim_file.proofs.blocks.is_framed.Tie as tie
@@ -20,32 +20,14 @@ number c = eq-eqb _ _ (sym (c .before .two-at .ensures) ∙ c .if2 .left)
 returns : tie.Need-returns
 returns c = sym (framed-is _ _ (ne-eqb _ _ (c .if1 .taken)) refl refl refl)
 
-two-at-requires : tie.Need-two-at-requires
-two-at-requires c κs = search needs
-
-cast-if2 : tie.Need-cast-if2
-cast-if2 c = search needs
-
 returns-2 : tie.Need-returns-2
 returns-2 c = sym (framed-is _ _ (size (c .before .before)) (ne-eqb _ _ (λ q. c .if2 .taken (c .before .two-at .ensures ∙ q))) refl refl)
-
-weighted-sum-requires : tie.Need-weighted-sum-requires
-weighted-sum-requires c κs = search needs
-
-two-at-requires-2 : tie.Need-two-at-requires-2
-two-at-requires-2 c κs = search needs
-
-cast-if3 : tie.Need-cast-if3
-cast-if3 c = search needs
 
 returns-3 : tie.Need-returns-3
 returns-3 c =
     let d = c .before .before in
     sym (framed-is _ _ (size (d .before .before .before)) (number (d .before))
     (ne-eqb _ _ (λ q. c .if3 .taken (ap (λ (n : ℕ). n % 65521) (d .weighted-sum .ensures) ∙ q ∙ sym (c .before .two-at2 .ensures)))) refl)
-
-all-zero-requires : tie.Need-all-zero-requires
-all-zero-requires c κs = search needs
 
 returns-4 : tie.Need-returns-4
 returns-4 c =
@@ -57,14 +39,5 @@ returns-4 c =
 pub is-framed-spec : {M : Type 1} → statement M
 is-framed-spec =
     tie.close
-    (tie.spec
-    returns
-    two-at-requires
-    cast-if2
-    returns-2
-    weighted-sum-requires
-    two-at-requires-2
-    cast-if3
-    returns-3
-    all-zero-requires
-    returns-4)
+    (tie.spec returns (λ c κs. search needs) (λ c. search needs) returns-2 (λ c κs. search needs) (λ c κs. search needs) (λ c. search needs) returns-3
+    (λ c κs. search needs) returns-4)

@@ -1,39 +1,12 @@
 -- `put_block` meets its contract: head, claims, zeros and check, one run after another. Assumes nothing.
 use native.Mathlib.Omega.{arith}
-use mathlib.Core.Path.{_≡_, refl, sym, ap, _∙_}
+use mathlib.Core.Path.{_≡_, sym, _∙_}
 use lib.ListN.{length, take, length-map}
 use lib.Seq.{length-take-le}
 use Rattle.claim_file.proofs.Written.{block-written}
 use borrow.Author.Needs.{needs}
 use Rattle.claim_file.proofs.blocks.put_block.Statement.{statement}
 use Rattle.claim_file.proofs.blocks.put_block.Tie as tie
-
-cast-end : tie.Need-cast-end
-cast-end c = search needs
-
-mul-end : tie.Need-mul-end
-mul-end c = search needs
-
-add-end : tie.Need-add-end
-add-end c = search needs
-
-put-head-requires : tie.Need-put-head-requires
-put-head-requires c κs = search needs
-
-put-claims-requires : tie.Need-put-claims-requires
-put-claims-requires c κs = search needs
-
-sub-put-zeros : tie.Need-sub-put-zeros
-sub-put-zeros c = search needs
-
-put-zeros-requires : tie.Need-put-zeros-requires
-put-zeros-requires c κs = search needs
-
-put-check-requires : tie.Need-put-check-requires
-put-check-requires c κs = search needs
-
-same-length : tie.Need-same-length
-same-length c = search needs
 
 returns : tie.Need-returns
 returns c =
@@ -51,14 +24,5 @@ returns c =
 pub put-block-spec : {M : Type 1} → statement M
 put-block-spec =
     tie.close
-    (tie.spec
-    cast-end
-    mul-end
-    add-end
-    put-head-requires
-    put-claims-requires
-    sub-put-zeros
-    put-zeros-requires
-    put-check-requires
-    same-length
-    returns)
+    (tie.spec (λ c. search needs) (λ c. search needs) (λ c. search needs) (λ c κs. search needs) (λ c κs. search needs) (λ c. search needs)
+    (λ c κs. search needs) (λ c κs. search needs) (λ c. search needs) returns)

@@ -1,23 +1,12 @@
 -- `put_check` meets its contract. Assumes nothing.
-use mathlib.Core.Path.{_≡_, refl, sym, ap, _∙_}
+use mathlib.Core.Path.{ap, _∙_}
 use Prim.Native.Nat.{ℕ, _%_}
 use lib.Seq.{sets}
-use Rattle.claim_file.specs.Block.{two, checkOf}
+use Rattle.claim_file.specs.Bytes.{two}
+use Rattle.claim_file.specs.Block.{checkOf}
 use borrow.Author.Needs.{needs}
 use Rattle.claim_file.proofs.blocks.put_check.Statement.{statement}
 use Rattle.claim_file.proofs.blocks.put_check.Tie as tie
-
-weighted-sum-requires : tie.Need-weighted-sum-requires
-weighted-sum-requires c κs = search needs
-
-cast-put-two : tie.Need-cast-put-two
-cast-put-two c = search needs
-
-put-two-requires : tie.Need-put-two-requires
-put-two-requires c κs = search needs
-
-same-length : tie.Need-same-length
-same-length c = search needs
 
 returns : tie.Need-returns
 unfolding checkOf
@@ -28,4 +17,5 @@ returns c =
 
 pub put-check-spec : {M : Type 1} → statement M
 put-check-spec =
-    tie.close (tie.spec weighted-sum-requires cast-put-two put-two-requires same-length returns)
+    tie.close
+    (tie.spec (λ c κs. search needs) (λ c. search needs) (λ c κs. search needs) (λ c. search needs) returns)

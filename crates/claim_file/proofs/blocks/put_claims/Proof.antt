@@ -4,8 +4,9 @@ use mathlib.Core.Path.{_≡_, refl, sym, ap, _∙_}
 use Prim.Native.Nat.{ℕ, _+_, _*_, _-_, _≤_}
 use lib.ListN.{length, take, length-map}
 use lib.Seq.{sets}
-use Rattle.claim_file.specs.Block.{allClaimBytes, claimBytes}
-use Rattle.claim_file.proofs.Stores.{run, all-ends, all-more}
+use Rattle.claim_file.specs.Record.{allClaimBytes, claimBytes}
+use Rattle.basics.proofs.Stores.{run}
+use Rattle.claim_file.proofs.ByteStores.{all-ends, all-more}
 use Rattle.claim_file.proofs.blocks.put_claims.Statement.{statement}
 use Rattle.claim_file.proofs.blocks.put_claims.Tie as tie
 
@@ -15,33 +16,9 @@ Inv-loop bytes₀ block place₀ place-end bytes place = (place ≤ block .count
 abbrev μ-loop : tie.MeasureT-loop
 μ-loop bytes₀ block place₀ place-end bytes place = block .count - place
 
-cast-place-end : tie.Need-cast-place-end Inv-loop μ-loop
-cast-place-end c = omega arith
-
 loop-holds : tie.Need-loop-holds Inv-loop μ-loop
 unfolding allClaimBytes
 loop-holds c = (omega arith, refl, c .before .pre .0)
-
-mul-put-claim : tie.Need-mul-put-claim Inv-loop μ-loop
-mul-put-claim c = omega arith
-
-element-copy-out-put-claim : tie.Need-element-copy-out-put-claim Inv-loop μ-loop
-element-copy-out-put-claim c = omega arith
-
-mul-put-claim-2 : tie.Need-mul-put-claim-2 Inv-loop μ-loop
-mul-put-claim-2 c = omega arith
-
-add-put-claim : tie.Need-add-put-claim Inv-loop μ-loop
-add-put-claim c = omega arith
-
-put-claim-requires : tie.Need-put-claim-requires Inv-loop μ-loop
-put-claim-requires c κs = omega arith
-
-add-place : tie.Need-add-place Inv-loop μ-loop
-add-place c = omega arith
-
-loop-less : tie.Need-loop-less Inv-loop μ-loop
-loop-less c = omega arith
 
 loop-again : tie.Need-loop-again Inv-loop μ-loop
 loop-again c =
@@ -70,18 +47,5 @@ returns c =
 pub put-claims-spec : {M : Type 1} → statement M
 put-claims-spec =
     tie.close
-    (tie.spec
-    Inv-loop
-    μ-loop
-    cast-place-end
-    loop-holds
-    mul-put-claim
-    element-copy-out-put-claim
-    mul-put-claim-2
-    add-put-claim
-    put-claim-requires
-    add-place
-    loop-less
-    loop-again
-    same-length
-    returns)
+    (tie.spec Inv-loop μ-loop (λ c. omega arith) loop-holds (λ c. omega arith) (λ c. omega arith) (λ c. omega arith) (λ c. omega arith)
+    (λ c κs. omega arith) (λ c. omega arith) (λ c. omega arith) loop-again same-length returns)

@@ -1,21 +1,15 @@
 -- `put_head` meets its contract: number, count and zeros, one run after another. Assumes nothing.
 use native.Mathlib.Omega.{arith}
 use borrow.Author.Needs.{needs}
-use mathlib.Core.Path.{_≡_, refl, sym, ap, _∙_}
+use mathlib.Core.Path.{refl, ap, _∙_}
 use lib.Seq.{length-sets}
-use Prim.Native.Nat.{_+_, _/_, _%_}
+use Prim.Native.Nat.{_+_}
 use mathlib.Core.List.{[], _∷_, _++_}
 use lib.ListN.{length, length-set}
-use Rattle.claim_file.specs.Block.{two, zeros}
-use Rattle.claim_file.proofs.Stores.{run}
+use Rattle.claim_file.specs.Bytes.{two, zeros}
+use Rattle.basics.proofs.Stores.{run}
 use Rattle.claim_file.proofs.blocks.put_head.Statement.{statement}
 use Rattle.claim_file.proofs.blocks.put_head.Tie as tie
-
-put-two-requires : tie.Need-put-two-requires
-put-two-requires c κs = search needs
-
-slice-write-bytes : tie.Need-slice-write-bytes
-slice-write-bytes c = search needs
 
 put-zeros-requires : tie.Need-put-zeros-requires
 put-zeros-requires c κs = simp length-set (omega arith)
@@ -34,4 +28,5 @@ same-length c = let s = c .before .before .before .before .before .before .befor
 
 pub put-head-spec : {M : Type 1} → statement M
 put-head-spec =
-    tie.close (tie.spec put-two-requires slice-write-bytes put-zeros-requires same-length returns)
+    tie.close
+    (tie.spec (λ c κs. search needs) (λ c. search needs) put-zeros-requires same-length returns)

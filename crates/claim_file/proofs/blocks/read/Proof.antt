@@ -1,13 +1,12 @@
 -- `read` meets its contract. Assumes nothing.
-use Rattle.claim_file.proofs.Reading.{read-zero, read-refused, read-known}
 use native.Mathlib.Omega.{arith}
-use mathlib.Core.Path.{_≡_, refl, sym, ap, _∙_}
+use mathlib.Core.Path.{_≡_, refl, sym, _∙_}
 use mathlib.Core.Bool.{true}
-use borrow.Author.Tests.{le-leb, lt-leb, not-true, not-false}
-use Rattle.claim_file.specs.Block.{claimBlock, claimCount, byteAt}
-use Rattle.claim_file.specs.Answers.{readOf}
-use Rattle.claim_file.proofs.Tests.{claim-block}
-use Rattle.claim_file.proofs.Reading.{read-refused, read-known}
+use borrow.Author.Tests.{not-true, not-false}
+use Rattle.claim_file.specs.Bytes.{byteAt}
+use Rattle.claim_file.specs.Block.{claimBlock, claimCount}
+use Rattle.claim_file.proofs.BlockTests.{claim-block}
+use Rattle.claim_file.proofs.Reading.{read-zero, read-refused, read-known}
 use borrow.Author.Needs.{needs}
 use Rattle.claim_file.proofs.blocks.read.Statement.{statement}
 use Rattle.claim_file.proofs.blocks.read.Tie as tie
@@ -15,17 +14,8 @@ use Rattle.claim_file.proofs.blocks.read.Tie as tie
 sound : (c : tie.Else2) → claimBlock (c .before .before .before .before .args .due) (c .before .before .before .before .args .bytes .now) ≡ true
 sound c = sym (c .before .is-claim-block .ensures) ∙ not-false _ (c .if2 .left)
 
-refused-read-requires : tie.Need-refused-read-requires
-refused-read-requires c κs = search needs
-
 returns : tie.Need-returns
 returns c = c .refused-read .ensures ∙ read-zero _ _ (c .before .if1 .taken)
-
-is-claim-block-requires : tie.Need-is-claim-block-requires
-is-claim-block-requires c κs = search needs
-
-refused-read-requires-2 : tie.Need-refused-read-requires-2
-refused-read-requires-2 c κs = search needs
 
 returns-2 : tie.Need-returns-2
 returns-2 c = c .refused-read2 .ensures ∙ read-refused _ _ (sym (c .before .before .is-claim-block .ensures) ∙ not-true _ (c .before .if2 .taken))
@@ -45,12 +35,5 @@ returns-3 c =
 pub read-spec : {M : Type 1} → statement M
 read-spec =
     tie.close
-    (tie.spec
-    refused-read-requires
-    returns
-    is-claim-block-requires
-    refused-read-requires-2
-    returns-2
-    shared-slice-read-count
-    claims-of-requires
+    (tie.spec (λ c κs. search needs) returns (λ c κs. search needs) (λ c κs. search needs) returns-2 shared-slice-read-count claims-of-requires
     returns-3)

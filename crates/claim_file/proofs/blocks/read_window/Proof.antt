@@ -1,22 +1,19 @@
 -- `read_window` meets its contract. Assumes nothing.
 use Rattle.claim_file.proofs.Reading.{window-known}
-use Rattle.claim_file.specs.declared.MaybeWindow.the-variants.{Known}
+use Rattle.claim_file.specs.declared.MaybeDates.the-variants.{Known}
 use native.Mathlib.Omega.{arith}
-use mathlib.Core.Path.{_≡_, refl, sym, ap, _∙_}
+use mathlib.Core.Path.{_≡_, sym, _∙_}
 use mathlib.Core.Bool.{true}
 use borrow.Author.Tests.{not-true, not-false}
 use Rattle.claim_file.specs.Block.{windowBlock}
 use Rattle.claim_file.specs.Answers.{windowOf}
-use Rattle.claim_file.proofs.Tests.{window-block}
+use Rattle.claim_file.proofs.BlockTests.{window-block}
 use borrow.Author.Needs.{needs}
 use Rattle.claim_file.proofs.blocks.read_window.Statement.{statement}
 use Rattle.claim_file.proofs.blocks.read_window.Tie as tie
 
 window : (c : tie.Else1) → windowBlock (c .before .before .before .args .bytes .now) ≡ true
 window c = sym (c .before .is-window-block .ensures) ∙ not-false _ (c .if1 .left)
-
-is-window-block-requires : tie.Need-is-window-block-requires
-is-window-block-requires c κs = search needs
 
 returns : tie.Need-returns
 unfolding windowOf
@@ -34,4 +31,4 @@ returns-2 c = (λ i. Known (record { first = c .before .date-at .ensures i; last
 pub read-window-spec : {M : Type 1} → statement M
 read-window-spec =
     tie.close
-    (tie.spec is-window-block-requires returns date-at-requires date-at-requires-2 returns-2)
+    (tie.spec (λ c κs. search needs) returns date-at-requires date-at-requires-2 returns-2)

@@ -1,10 +1,11 @@
 -- `weighted_sum` meets its contract. The loop's invariant: the sum of the bytes passed, each at most 510 × 255. Assumes nothing.
 use native.Mathlib.Omega.{arith}
 use Prim.Native.Nat.{_+_, _*_, _-_, _≤_, _<_}
-use mathlib.Core.Path.{_≡_, refl, sym, ap, _∙_}
+use mathlib.Core.Path.{_≡_, refl, ap, _∙_}
 use lib.ListN.{getD}
-use Rattle.claim_file.specs.Block.{byteAt, weightedSum}
-use Rattle.claim_file.proofs.Parts.{weighted-step, weighted-byte}
+use Rattle.claim_file.specs.Bytes.{byteAt}
+use Rattle.claim_file.specs.Block.{weightedSum}
+use Rattle.claim_file.proofs.RecordParts.{weighted-step, weighted-byte}
 use Rattle.claim_file.proofs.blocks.weighted_sum.Statement.{statement}
 use Rattle.claim_file.proofs.blocks.weighted_sum.Tie as tie
 
@@ -26,15 +27,6 @@ loop-holds : tie.Need-loop-holds Inv-loop μ-loop
 unfolding weightedSum
 loop-holds c = (omega arith, omega arith, refl)
 
-cast-sum : tie.Need-cast-sum Inv-loop μ-loop
-cast-sum c = omega arith
-
-add-sum : tie.Need-add-sum Inv-loop μ-loop
-add-sum c = omega arith
-
-shared-slice-read-sum : tie.Need-shared-slice-read-sum Inv-loop μ-loop
-shared-slice-read-sum c = omega arith
-
 cast-sum-2 : tie.Need-cast-sum-2 Inv-loop μ-loop
 cast-sum-2 c = omega (arith, byte c)
 
@@ -43,12 +35,6 @@ mul-sum c = omega (arith, term c)
 
 add-sum-2 : tie.Need-add-sum-2 Inv-loop μ-loop
 add-sum-2 c = omega (arith, term c)
-
-add-i : tie.Need-add-i Inv-loop μ-loop
-add-i c = omega arith
-
-loop-less : tie.Need-loop-less Inv-loop μ-loop
-loop-less c = omega arith
 
 loop-again : tie.Need-loop-again Inv-loop μ-loop
 unfolding byteAt
@@ -63,17 +49,5 @@ returns c = let e : c .before .loop .i ≡ 510 = omega arith in c .before .loop 
 pub weighted-sum-spec : {M : Type 1} → statement M
 weighted-sum-spec =
     tie.close
-    (tie.spec
-    Inv-loop
-    μ-loop
-    loop-holds
-    cast-sum
-    add-sum
-    shared-slice-read-sum
-    cast-sum-2
-    mul-sum
-    add-sum-2
-    add-i
-    loop-less
-    loop-again
-    returns)
+    (tie.spec Inv-loop μ-loop loop-holds (λ c. omega arith) (λ c. omega arith) (λ c. omega arith) cast-sum-2 mul-sum add-sum-2 (λ c. omega arith)
+    (λ c. omega arith) loop-again returns)

@@ -1,5 +1,5 @@
 -- `write` meets its contract: each return by the tests that led there. Assumes nothing.
-use mathlib.Core.Path.{_≡_, refl, sym, ap, _∙_}
+use mathlib.Core.Path.{refl}
 use native.Mathlib.Omega.{arith}
 use lib.ListN.{length}
 use borrow.Author.Tests.{le-leb, lt-leb, eq-eqb, ne-eqb}
@@ -32,15 +32,6 @@ returns-4 c =
     (write-is (s .number) (s .block) (s .bytes .now) (le-leb 1 (s .number) (omega arith)) (le-leb (s .number) 65535 (omega arith)) (le-leb (s .block .count) 15 (omega arith))
     (ne-eqb (length (s .bytes .now)) 512 (c .if4 .taken)))
 
-cast-put-block : tie.Need-cast-put-block
-cast-put-block c = search needs
-
-put-block-requires : tie.Need-put-block-requires
-put-block-requires c κs = search needs
-
-same-length : tie.Need-same-length
-same-length c = search needs
-
 returns-5 : tie.Need-returns-5
 returns-5 c =
     let d = c .before .before in
@@ -53,12 +44,4 @@ returns-5 c =
 pub write-spec : {M : Type 1} → statement M
 write-spec =
     tie.close
-    (tie.spec
-    returns
-    returns-2
-    returns-3
-    returns-4
-    cast-put-block
-    put-block-requires
-    same-length
-    returns-5)
+    (tie.spec returns returns-2 returns-3 returns-4 (λ c. search needs) (λ c κs. search needs) (λ c. search needs) returns-5)

@@ -7,12 +7,6 @@ use Rattle.claim_file.proofs.blocks.write_window.Tie as tie
 returns : tie.Need-returns
 returns c = window-refused _ _ _ (c .if1 .taken)
 
-put-window-requires : tie.Need-put-window-requires
-put-window-requires c κs = search needs
-
-same-length : tie.Need-same-length
-same-length c = search needs
-
 returns-2 : tie.Need-returns-2
 returns-2 c =
     let d = c .before .before in
@@ -20,4 +14,5 @@ returns-2 c =
     window-done (s .first) (s .last) (s .bytes .now) _ (d .before .before .if1 .left) (d .put-window .ensures)
 
 pub write-window-spec : {M : Type 1} → statement M
-write-window-spec = tie.close (tie.spec returns put-window-requires same-length returns-2)
+write-window-spec = tie.close
+    (tie.spec returns (λ c κs. search needs) (λ c. search needs) returns-2)

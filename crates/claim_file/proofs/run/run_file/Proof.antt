@@ -1,20 +1,10 @@
 -- `run_file` meets its contract. Assumes nothing.
-use Prim.Native.Nat.{ℕ}
-use mathlib.Core.Path.{_≡_, ap, _∙_}
+use mathlib.Core.Path.{ap, _∙_}
 use borrow.Author.Needs.{needs}
 use Rattle.claim_file.specs.declared.FileRun.{FileRun}
 use Rattle.claim_file.specs.Run.{fed, ended, fileRun}
 use Rattle.claim_file.proofs.run.run_file.Statement.{statement}
 use Rattle.claim_file.proofs.run.run_file.Tie as tie
-
-start-requires : tie.Need-start-requires
-start-requires c κs = search needs
-
-feed-requires : tie.Need-feed-requires
-feed-requires c κs = search needs
-
-end-requires : tie.Need-end-requires
-end-requires c κs = search needs
 
 returns : tie.Need-returns
 unfolding fileRun
@@ -23,4 +13,5 @@ returns c =
     c .end .ensures ∙ ap ended (c .before .feed .ensures ∙ ap (λ (r : FileRun). fed r (s .rates .now) (s .bytes .now)) (c .before .before .start .ensures))
 
 pub run-file-spec : {M : Type 1} → statement M
-run-file-spec = tie.close (tie.spec start-requires feed-requires end-requires returns)
+run-file-spec = tie.close
+    (tie.spec (λ c κs. search needs) (λ c κs. search needs) (λ c κs. search needs) returns)

@@ -44,9 +44,6 @@ returns-4 c =
     let d = e1 .before .before .args .claim in
     simp (of-open d (omega arith) (e2 .if2 .left), ne-eqb (d .code) 0 (c .if4 .taken))
 
-is-missing-requires : tie.Need-is-missing-requires
-is-missing-requires c κs = search needs
-
 returns-5 : tie.Need-returns-5
 returns-5 c =
     let e4 = c .before in
@@ -57,4 +54,5 @@ returns-5 c =
 
 pub status-sound-spec : {M : Type 1} → statement M
 status-sound-spec =
-    tie.close (tie.spec returns returns-2 returns-3 returns-4 is-missing-requires returns-5)
+    tie.close
+    (tie.spec returns returns-2 returns-3 returns-4 (λ c κs. search needs) returns-5)

@@ -1,39 +1,28 @@
 -- `claim_months::exposure::exposed_to` meets its contract: the window's end, or an earlier termination of a closed claim.
 -- Assumes nothing.
-use Prim.Native.Nat.{min}
-use mathlib.Core.Path.{_≡_}
-use mathlib.Core.Bool.{true}
+use borrow.Author.Tests.{lt-ltb, le-ltb, not-true, not-false}
 use native.Mathlib.Omega.{arith}
-use borrow.Author.Tests.{eq-eqb, ne-eqb}
-use Rattle.claim_months.specs.Claim.{isClosed, terminationDay}
-use Rattle.claim_months.specs.Exposure.{exposedTo}
-use Rattle.claim_months.proofs.Sound.{sound}
+use Rattle.claim_months.specs.Private.{toOf}
 use Rattle.claim_months.proofs.exposure.exposed_to.Statement.{statement}
 use Rattle.claim_months.proofs.exposure.exposed_to.Tie as tie
 
 returns : tie.Need-returns
-unfolding exposedTo isClosed
-returns c = simp (ne-eqb _ _ (c .if1 .taken))
-
-closed : (c : tie.Else1) → isClosed (c .before .before .args .claim) ≡ true
-unfolding isClosed
-closed c = eq-eqb _ _ (c .if1 .left)
-
-day-requires : tie.Need-day-requires
-day-requires c κs = sound _ (c .before .before .pre) .termination-date (closed c)
-
--- of a closed claim the earlier day
-earlier : (c : tie.Else1) →
-    let d = c .before .before .args in
-    exposedTo (d .claim) (d .last) ≡ min (d .last) (terminationDay (d .claim))
-unfolding exposedTo
-earlier c = simp (closed c)
+unfolding toOf
+returns c = simp (not-true (c .before .before .args .claim .closed) (c .if1 .taken))
 
 returns-2 : tie.Need-returns-2
-returns-2 c = omega (arith, earlier (c .before .before))
+unfolding toOf
+returns-2 c =
+    let e1 = c .before .before .before .before in
+    let a = e1 .before .before .args in
+    simp (not-false (a .claim .closed) (e1 .if1 .left), lt-ltb (a .claim .termination .day .0) (a .last .day .0) (omega arith))
 
 returns-3 : tie.Need-returns-3
-returns-3 c = omega (arith, earlier (c .before .before))
+unfolding toOf
+returns-3 c =
+    let e1 = c .before .before .before in
+    let a = e1 .before .before .args in
+    simp (not-false (a .claim .closed) (e1 .if1 .left), le-ltb (a .claim .termination .day .0) (a .last .day .0) (omega arith))
 
 pub exposed-to-spec : {M : Type 1} → statement M
-exposed-to-spec = tie.close (tie.spec returns day-requires returns-2 returns-3)
+exposed-to-spec = tie.close (tie.spec returns returns-2 returns-3)

@@ -3,12 +3,9 @@
 use native.Mathlib.Omega.{arith}
 use borrow.Author.Needs.{needs}
 use borrow.Author.Tests.{eq-eqb, ne-eqb}
-use Rattle.claim_months.specs.Helpers.{spanCategory}
+use Rattle.claim_months.specs.Private.{spanCategory}
 use Rattle.claim_months.proofs.listing.month_category.Statement.{statement}
 use Rattle.claim_months.proofs.listing.month_category.Tie as tie
-
-add-if1 : tie.Need-add-if1
-add-if1 c = search needs
 
 returns : tie.Need-returns
 unfolding spanCategory
@@ -19,4 +16,5 @@ unfolding spanCategory
 returns-2 c = simp (ne-eqb _ _ (c .if1 .left))
 
 pub month-category-spec : {M : Type 1} → statement M
-month-category-spec = tie.close (tie.spec add-if1 returns returns-2)
+month-category-spec = tie.close
+    (tie.spec (λ c. search needs) returns returns-2)

@@ -27,79 +27,23 @@ six l n p q r s t u =
     let n5 : n + 5 ≡ suc (suc (suc (suc (suc n)))) = omega arith in
     λ i. set (set (set (set (set (set l n (p i)) (n1 i) (q i)) (n2 i) (r i)) (n3 i) (s i)) (n4 i) (t i)) (n5 i) (u i)
 
-signed-requires : tie.Need-signed-requires
-signed-requires c κs = search needs
-
-mul-list : tie.Need-mul-list
-mul-list c = search needs
-
-slice-set-from-list : tie.Need-slice-set-from-list
-slice-set-from-list c = search needs
-
-signed-requires-2 : tie.Need-signed-requires-2
-signed-requires-2 c κs = search needs
-
-add-list : tie.Need-add-list
-add-list c = search needs
-
-mul-list-2 : tie.Need-mul-list-2
-mul-list-2 c = search needs
-
 slice-set-from-list-2 : tie.Need-slice-set-from-list-2
 slice-set-from-list-2 c = simp length-set (omega arith)
-
-signed-requires-3 : tie.Need-signed-requires-3
-signed-requires-3 c κs = search needs
-
-add-list-2 : tie.Need-add-list-2
-add-list-2 c = search needs
-
-mul-list-3 : tie.Need-mul-list-3
-mul-list-3 c = search needs
 
 slice-set-from-list-3 : tie.Need-slice-set-from-list-3
 slice-set-from-list-3 c = simp length-set (omega arith)
 
-difference-requires : tie.Need-difference-requires
-difference-requires c κs = search needs
-
-add-list-3 : tie.Need-add-list-3
-add-list-3 c = search needs
-
-mul-list-4 : tie.Need-mul-list-4
-mul-list-4 c = search needs
-
 slice-set-from-list-4 : tie.Need-slice-set-from-list-4
 slice-set-from-list-4 c = simp length-set (omega arith)
 
-month-index-requires : tie.Need-month-index-requires
-month-index-requires c κs = search needs
-
 signed-requires-4 : tie.Need-signed-requires-4
 signed-requires-4 c κs =
-    let s = c .before .before .before .before .before in
-    omega (arith, c .month-index .ensures, month-of-high (s .args .month .first) (s .pre .1 .first-high))
-
-add-list-4 : tie.Need-add-list-4
-add-list-4 c = search needs
-
-mul-list-5 : tie.Need-mul-list-5
-mul-list-5 c = search needs
+    let s = c .before .before .before .before in
+    let p = s .pre .1 .1 in
+    omega (arith, p .month-is, month-of-high (s .args .month .first .day .0) (p .high))
 
 slice-set-from-list-5 : tie.Need-slice-set-from-list-5
 slice-set-from-list-5 c = simp length-set (omega arith)
-
-cast-signed : tie.Need-cast-signed
-cast-signed c = search needs
-
-signed-requires-5 : tie.Need-signed-requires-5
-signed-requires-5 c κs = search needs
-
-add-t5 : tie.Need-add-t5
-add-t5 c = search needs
-
-mul-t7 : tie.Need-mul-t7
-mul-t7 c = search needs
 
 slice-set-from-list-6 : tie.Need-slice-set-from-list-6
 slice-set-from-list-6 c = simp length-set (omega arith)
@@ -111,50 +55,26 @@ returns : tie.Need-returns
 unfolding row
 returns c =
     let i = c .before .before in
-    let d = i .before .before in
+    let d = i .before in
     let s3 = d .before in
     let s2 = s3 .before in
     let s1 = s2 .before in
     let s = s1 .before in
     let m = s .args .month in
-    let b = s .pre .1 in
+    let b = s .pre .1 .0 in
+    let p = s .pre .1 .1 in
     six (s .args .list .now) (s .args .at)
-    (read-back _ (pos (m .duration)) (s1 .signed .ensures) (omega (arith, b .duration-high)))
-    (read-back _ (pos (m .first)) (s2 .signed2 .ensures) (omega (arith, b .first-high)))
-    (read-back _ (pos (m .last)) (s3 .signed3 .ensures) (omega (arith, b .last-high)))
-    (read-back _ _ (d .difference .ensures) (difference-size (m .upper) (m .lower) (b .U-high) (b .B-high)))
-    (read-back _ (pos (monthOf (m .first))) (i .signed4 .ensures ∙ ap pos (i .before .month-index .ensures))
-    (omega (arith, month-of-high (m .first) (b .first-high))))
+    (read-back _ (pos (m .duration .0)) (s1 .signed .ensures) (omega (arith, b .duration-high)))
+    (read-back _ (pos (m .first .day .0)) (s2 .signed2 .ensures) (omega (arith, b .first-high)))
+    (read-back _ (pos (m .last .0)) (s3 .signed3 .ensures) (omega (arith, b .last-high)))
+    (read-back _ _ (d .difference .ensures) (difference-size (m .upper .0) (m .lower .0) (b .U-high) (b .B-high)))
+    (read-back _ (pos (monthOf (m .first .day .0))) (i .signed4 .ensures ∙ ap pos (p .month-is)) (omega (arith, month-of-high (m .first .day .0) (p .high))))
     (read-back _ (pos (m .category)) (c .signed5 .ensures) (omega (arith, b .category-high)))
 
 pub put-row-spec : {M : Type 1} → statement M
 put-row-spec =
     tie.close
-    (tie.spec
-    signed-requires
-    mul-list
-    slice-set-from-list
-    signed-requires-2
-    add-list
-    mul-list-2
-    slice-set-from-list-2
-    signed-requires-3
-    add-list-2
-    mul-list-3
-    slice-set-from-list-3
-    difference-requires
-    add-list-3
-    mul-list-4
-    slice-set-from-list-4
-    month-index-requires
-    signed-requires-4
-    add-list-4
-    mul-list-5
-    slice-set-from-list-5
-    cast-signed
-    signed-requires-5
-    add-t5
-    mul-t7
-    slice-set-from-list-6
-    same-length
-    returns)
+    (tie.spec (λ c κs. search needs) (λ c. search needs) (λ c. search needs) (λ c κs. search needs) (λ c. search needs) (λ c. search needs)
+    slice-set-from-list-2 (λ c κs. search needs) (λ c. search needs) (λ c. search needs) slice-set-from-list-3 (λ c κs. search needs)
+    (λ c. search needs) (λ c. search needs) slice-set-from-list-4 signed-requires-4 (λ c. search needs) (λ c. search needs) slice-set-from-list-5
+    (λ c. search needs) (λ c κs. search needs) (λ c. search needs) (λ c. search needs) slice-set-from-list-6 same-length returns)

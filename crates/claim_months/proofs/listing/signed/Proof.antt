@@ -7,11 +7,9 @@ use Rattle.claim_months.proofs.Signed.{read-back}
 use Rattle.claim_months.proofs.listing.signed.Statement.{statement}
 use Rattle.claim_months.proofs.listing.signed.Tie as tie
 
-cast-result : tie.Need-cast-result
-cast-result c = search needs
-
 returns : tie.Need-returns
 returns c = read-back (pos (c .args .number)) _ refl (c .pre)
 
 pub signed-spec : {M : Type 1} → statement M
-signed-spec = tie.close (tie.spec cast-result returns)
+signed-spec = tie.close
+    (tie.spec (λ c. search needs) returns)

@@ -10,7 +10,7 @@ use lib.Signed.{mag, ltZ, nonNeg}
 use mir.Syntax.{w64}
 use mir.Val.{Fits, SFits, toZ, ofZ}
 use mir.Facts.{toZ-ofZ, fits-natAbs}
-use Rattle.calendar.proofs.Tests.{tests, by}
+use Rattle.basics.proofs.Tests.{tests, by}
 use Rattle.valuation.proofs.Laws.{clash}
 use Rattle.ltd_study.proofs.output.size_of.Statement.{statement}
 use Rattle.ltd_study.proofs.output.size_of.Tie as tie

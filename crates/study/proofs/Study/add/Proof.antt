@@ -2,21 +2,13 @@
 -- Assumes nothing.
 use borrow.Author.Needs.{needs}
 use mathlib.Core.Path.{sym, _∙_}
-use Rattle.study.proofs.WithSpan.{added-spanned, spanned-bounds, added-none}
+use Rattle.claim_months.proofs.SpanAnswers.{spanned-bounds}
+use Rattle.study.proofs.WithSpan.{added-spanned, added-none}
 use Rattle.study.proofs.Study.add.Statement.{statement}
 use Rattle.study.proofs.Study.add.Tie as tie
 
-span-requires : tie.Need-span-requires
-span-requires c κs = search needs
-
-enum-known-span : tie.Need-enum-known-span
-enum-known-span c = search needs
-
 add-span-requires : tie.Need-add-span-requires
 add-span-requires c κs = spanned-bounds _ _ _ _ (sym (c .before .span2 .given .1) ∙ c .before .before .before .span .ensures)
-
-enum-known-number : tie.Need-enum-known-number
-enum-known-number c = search needs
 
 returns : tie.Need-returns
 returns c =
@@ -31,4 +23,4 @@ returns-2 c =
 pub add-spec : {M : Type 1} → statement M
 add-spec =
     tie.close
-    (tie.spec span-requires enum-known-span add-span-requires enum-known-number returns returns-2)
+    (tie.spec (λ c κs. search needs) (λ c. search needs) add-span-requires (λ c. search needs) returns returns-2)

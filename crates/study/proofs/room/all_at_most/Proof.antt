@@ -6,8 +6,8 @@ use native.Mathlib.Omega.{arith}
 use borrow.Author.Tests.{le-leb, lt-leb}
 use lib.ListN.{getD, drop}
 use lib.Dec.{leb}
-use Rattle.study.specs.Study.{allAtMost}
-use Rattle.study.proofs.Tables.{Walk, walk}
+use Rattle.basics.specs.Tables.{allAtMost}
+use Rattle.basics.proofs.Tables.{Walk, walk}
 use Rattle.study.proofs.room.all_at_most.Statement.{statement}
 use Rattle.study.proofs.room.all_at_most.Tie as tie
 
@@ -24,23 +24,11 @@ walked c = walk 25 0 _ (allAtMost 500000) refl (λ x xs. refl) (c .before .args 
 loop-holds : tie.Need-loop-holds Inv-loop μ-loop
 loop-holds c = (omega arith, refl)
 
-mul-if1 : tie.Need-mul-if1 Inv-loop μ-loop
-mul-if1 c = omega arith
-
-array-read-if1 : tie.Need-array-read-if1 Inv-loop μ-loop
-array-read-if1 c = omega arith
-
 returns : tie.Need-returns Inv-loop μ-loop
 returns c =
     let x = getD (c .before .before .before .args .t1) (c .before .before .loop .k) 0 in
     let h : 500000 < x = omega arith in
     walked (c .before .before) .fails (omega arith) (lt-leb x 500000 h)
-
-add-k : tie.Need-add-k Inv-loop μ-loop
-add-k c = omega arith
-
-loop-less : tie.Need-loop-less Inv-loop μ-loop
-loop-less c = omega arith
 
 loop-again : tie.Need-loop-again Inv-loop μ-loop
 loop-again c =
@@ -52,4 +40,5 @@ returns-2 : tie.Need-returns-2 Inv-loop μ-loop
 returns-2 c = walked (c .before) .ends (omega arith)
 
 pub all-at-most-spec : {M : Type 1} → statement M
-all-at-most-spec = tie.close (tie.spec Inv-loop μ-loop loop-holds mul-if1 array-read-if1 returns add-k loop-less loop-again returns-2)
+all-at-most-spec = tie.close
+    (tie.spec Inv-loop μ-loop loop-holds (λ c. omega arith) (λ c. omega arith) returns (λ c. omega arith) (λ c. omega arith) loop-again returns-2)

@@ -11,8 +11,8 @@ use lib.IntN.{pos, natAbs}
 use mir.Syntax.{w64}
 use mir.Val.{toZ, ofZ}
 use mir.Facts.{toZ-ofZ}
-use Rattle.study.specs.Study.{allWithin}
-use Rattle.study.proofs.Tables.{Walk, walk}
+use Rattle.basics.specs.Tables.{allWithin}
+use Rattle.basics.proofs.Tables.{Walk, walk}
 use Rattle.study.proofs.room.all_within.Statement.{statement}
 use Rattle.study.proofs.room.all_within.Tie as tie
 
@@ -30,15 +30,6 @@ walked c = walk 5 (pos 0) _ (allWithin (c .before .args .bound)) refl (λ x xs. 
 loop-holds : tie.Need-loop-holds Inv-loop μ-loop
 loop-holds c = (omega arith, refl)
 
-mul-x : tie.Need-mul-x Inv-loop μ-loop
-mul-x c = omega arith
-
-array-copy-out-x : tie.Need-array-copy-out-x Inv-loop μ-loop
-array-copy-out-x c = omega arith
-
-is-within-requires : tie.Need-is-within-requires Inv-loop μ-loop
-is-within-requires c κs = search needs
-
 -- what the call says of the sum at `k`, read back from its bits
 tested : (c : tie.After-is-within Inv-loop μ-loop)
     → c .is-within .result ≡ leb (natAbs (getD (c .before .before .before .before .args .t1) (c .before .before .before .loop .k) (pos 0))) (c .before .before .before .before .args .bound)
@@ -50,12 +41,6 @@ tested c =
 returns : tie.Need-returns Inv-loop μ-loop
 returns c = walked (c .before .before .before .before) .fails (omega arith) (sym (tested (c .before)) ∙ not-true _ (c .if1 .taken))
 
-add-k : tie.Need-add-k Inv-loop μ-loop
-add-k c = omega arith
-
-loop-less : tie.Need-loop-less Inv-loop μ-loop
-loop-less c = omega arith
-
 loop-again : tie.Need-loop-again Inv-loop μ-loop
 loop-again c =
     (omega arith, walked (c .before .before .before .before) .goes-on (omega arith) (sym (tested (c .before)) ∙ not-false _ (c .if1 .left)))
@@ -64,4 +49,6 @@ returns-2 : tie.Need-returns-2 Inv-loop μ-loop
 returns-2 c = walked (c .before) .ends (omega arith)
 
 pub all-within-spec : {M : Type 1} → statement M
-all-within-spec = tie.close (tie.spec Inv-loop μ-loop loop-holds mul-x array-copy-out-x is-within-requires returns add-k loop-less loop-again returns-2)
+all-within-spec = tie.close
+    (tie.spec Inv-loop μ-loop loop-holds (λ c. omega arith) (λ c. omega arith) (λ c κs. search needs) returns (λ c. omega arith) (λ c. omega arith)
+    loop-again returns-2)

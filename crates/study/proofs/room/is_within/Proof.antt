@@ -10,7 +10,7 @@ use lib.Signed.{ltZ, nonNeg, mag}
 use mir.Syntax.{w64}
 use mir.Val.{SFits, toZ, ofZ}
 use mir.Facts.{toZ-ofZ, fits-natAbs}
-use Rattle.calendar.proofs.Tests.{tests}
+use Rattle.basics.proofs.Tests.{tests}
 use Rattle.study.proofs.room.is_within.Statement.{statement}
 use Rattle.study.proofs.room.is_within.Tie as tie
 

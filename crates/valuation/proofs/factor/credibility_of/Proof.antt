@@ -27,9 +27,6 @@ part g e k q s h low high =
     let misses : 1000000 * e < (q + 1) * (q + 1) * 30 * groupK g = rw (← s, mul-assoc ((q + 1) * (q + 1)) 30 k) high in
     largest-one (largest-at (z-falls g (pos e)) below (le-leb _ _ has) (lt-leb _ _ misses)) (credibility-is g (pos e))
 
-k-of-requires : tie.Need-k-of-requires
-k-of-requires c κs = search needs
-
 mul-unit : tie.Need-mul-unit
 mul-unit c = omega (arith, k-high (c .before .args .group))
 
@@ -53,4 +50,5 @@ returns-2 c =
 
 pub credibility-of-spec : {M : Type 1} → statement M
 credibility-of-spec =
-    tie.close (tie.spec k-of-requires mul-unit mul-if1 returns mul-root root-requires returns-2)
+    tie.close
+    (tie.spec (λ c κs. search needs) mul-unit mul-if1 returns mul-root root-requires returns-2)

@@ -10,12 +10,6 @@ use Rattle.valuation.proofs.Laws.{of-positive}
 use Rattle.valuation.proofs.factor.factor.Statement.{statement}
 use Rattle.valuation.proofs.factor.factor.Tie as tie
 
-positive-part-requires : tie.Need-positive-part-requires
-positive-part-requires c κs = search needs
-
-known-factor-requires : tie.Need-known-factor-requires
-known-factor-requires c κs = search needs
-
 returns : tie.Need-returns
 returns c =
     let start = c .before .before in
@@ -25,4 +19,5 @@ returns c =
     ∙ of-positive (a .group) (a .terminations) (a .expected)
 
 pub factor-spec : {M : Type 1} → statement M
-factor-spec = tie.close (tie.spec positive-part-requires known-factor-requires returns)
+factor-spec = tie.close
+    (tie.spec (λ c κs. search needs) (λ c κs. search needs) returns)

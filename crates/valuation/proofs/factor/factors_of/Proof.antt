@@ -4,16 +4,10 @@ use native.Mathlib.Omega.{arith}
 use borrow.Author.Needs.{needs}
 use borrow.Author.Tests.{ne-eqb}
 use lib.IntN.{pos}
-use Rattle.valuation.specs.Factor.{positive, unlimited, factor, factorsOf}
+use Rattle.valuation.specs.Factor.{positive, unlimited, factorOf, factorsOf}
 use Rattle.valuation.proofs.Laws.{credibility-high, margin-bounds}
 use Rattle.valuation.proofs.factor.factors_of.Statement.{statement}
 use Rattle.valuation.proofs.factor.factors_of.Tie as tie
-
-credibility-of-requires : tie.Need-credibility-of-requires
-credibility-of-requires c κs = search needs
-
-margin-of-requires : tie.Need-margin-of-requires
-margin-of-requires c κs = search needs
 
 unlimited-of-requires : tie.Need-unlimited-of-requires
 unlimited-of-requires c κs =
@@ -30,11 +24,8 @@ cast-t8 c =
     let a = c .before .before .before .args in
     omega (arith, margin-bounds (a .group) (a .terminations))
 
-limited-requires : tie.Need-limited-requires
-limited-requires c κs = search needs
-
 returns : tie.Need-returns
-unfolding factorsOf factor unlimited positive
+unfolding factorsOf factorOf unlimited positive
 returns c =
     let d = c .before .before .before in
     simp (
@@ -48,11 +39,4 @@ returns c =
 pub factors-of-spec : {M : Type 1} → statement M
 factors-of-spec =
     tie.close
-    (tie.spec
-    credibility-of-requires
-    margin-of-requires
-    unlimited-of-requires
-    cast-t7
-    cast-t8
-    limited-requires
-    returns)
+    (tie.spec (λ c κs. search needs) (λ c κs. search needs) unlimited-of-requires cast-t7 cast-t8 (λ c κs. search needs) returns)

@@ -5,12 +5,10 @@ use Rattle.valuation.specs.Factor.{groupK}
 use Rattle.valuation.proofs.factor.k_of.Statement.{statement}
 use Rattle.valuation.proofs.factor.k_of.Tie as tie
 
-of-group-requires : tie.Need-of-group-requires
-of-group-requires c κs = search needs
-
 returns : tie.Need-returns
 unfolding groupK
 returns c = c .of-group .ensures
 
 pub k-of-spec : {M : Type 1} → statement M
-k-of-spec = tie.close (tie.spec of-group-requires returns)
+k-of-spec = tie.close
+    (tie.spec (λ c κs. search needs) returns)

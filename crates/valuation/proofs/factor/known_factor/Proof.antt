@@ -25,9 +25,6 @@ returns-4 : tie.Need-returns-4
 unfolding factorIn factorSound factorsOf
 returns-4 c = rw (c .if4 .taken, le-leb _ _ (c .before .if3 .left))
 
-factors-of-requires : tie.Need-factors-of-requires
-factors-of-requires c κs = search needs
-
 returns-5 : tie.Need-returns-5
 unfolding factorIn factorSound
 returns-5 c =
@@ -37,4 +34,5 @@ returns-5 c =
 
 pub known-factor-spec : {M : Type 1} → statement M
 known-factor-spec =
-    tie.close (tie.spec returns returns-2 returns-3 returns-4 factors-of-requires returns-5)
+    tie.close
+    (tie.spec returns returns-2 returns-3 returns-4 (λ c κs. search needs) returns-5)

@@ -3,7 +3,7 @@
 use mathlib.Core.Path.{refl, sym, _∙_}
 use native.Mathlib.Omega.{arith}
 use borrow.Author.Needs.{needs}
-use Rattle.calendar.proofs.Tests.{is-pick}
+use Rattle.basics.proofs.Tests.{is-pick}
 use Rattle.valuation.specs.Factor.{isLimited}
 use Rattle.valuation.proofs.factor.limited.Statement.{statement}
 use Rattle.valuation.proofs.factor.limited.Tie as tie
@@ -12,9 +12,6 @@ returns : tie.Need-returns
 returns c =
     is-pick (isLimited (c .before .args .group) (c .before .args .terminations)) (λ e. omega arith) (λ e. refl)
 
-is-limited-requires : tie.Need-is-limited-requires
-is-limited-requires c κs = search needs
-
 returns-2 : tie.Need-returns-2
 returns-2 c = simp (sym (c .before .is-limited .ensures) ∙ c .if2 .taken) (omega arith)
 
@@ -22,4 +19,5 @@ returns-3 : tie.Need-returns-3
 returns-3 c = simp (sym (c .before .is-limited .ensures) ∙ c .if2 .left)
 
 pub limited-spec : {M : Type 1} → statement M
-limited-spec = tie.close (tie.spec returns is-limited-requires returns-2 returns-3)
+limited-spec = tie.close
+    (tie.spec returns (λ c κs. search needs) returns-2 returns-3)

@@ -21,9 +21,6 @@ returns : tie.Need-returns
 unfolding margin
 returns c = rw (c .if1 .taken)
 
-twice-a-of-requires : tie.Need-twice-a-of-requires
-twice-a-of-requires c κs = search needs
-
 mul-root : tie.Need-mul-root
 mul-root c = omega (arith, twice-a-bounds (c .before .before .args .group))
 
@@ -32,9 +29,6 @@ sub-root c = omega (arith, twice-a-bounds (c .before .before .args .group))
 
 root-requires : tie.Need-root-requires
 root-requires c κs = omega (arith, twice-a-bounds (c .before .before .args .group))
-
-add-r : tie.Need-add-r
-add-r c = omega arith
 
 -- m is known once the root is
 found : (c : tie.After-root) → margin (c .before .before .before .args .group) (c .before .before .before .args .terminations) ≡ min 150000 (30000 + (c .root .result + 1))
@@ -46,9 +40,6 @@ found c =
     ∙ ap (λ (n : ℕ). min 150000 (30000 + n))
     (sym (next (a .group) (a .terminations) _ _ (c .before .twice-a-of .ensures) l (r .1) (r .2)))
 
-add-result : tie.Need-add-result
-add-result c = search needs
-
 returns-2 : tie.Need-returns-2
 returns-2 c = omega (arith, found (c .before))
 
@@ -58,13 +49,4 @@ returns-3 c = omega (arith, found (c .before))
 pub margin-of-spec : {M : Type 1} → statement M
 margin-of-spec =
     tie.close
-    (tie.spec
-    returns
-    twice-a-of-requires
-    mul-root
-    sub-root
-    root-requires
-    add-r
-    add-result
-    returns-2
-    returns-3)
+    (tie.spec returns (λ c κs. search needs) mul-root sub-root root-requires (λ c. omega arith) (λ c. search needs) returns-2 returns-3)

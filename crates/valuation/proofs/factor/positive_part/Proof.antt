@@ -7,7 +7,7 @@ use lib.Dec.{T}
 use lib.IntN.{ℤ, pos, negsuc, natAbs}
 use lib.Signed.{leZ, nonNeg}
 use mir.Facts.{toZ-ofZ, fits-natAbs}
-use Rattle.calendar.proofs.Tests.{tests}
+use Rattle.basics.proofs.Tests.{tests}
 use Rattle.valuation.specs.Factor.{positive}
 use Rattle.valuation.proofs.Laws.{clash}
 use Rattle.valuation.proofs.factor.positive_part.Statement.{statement}

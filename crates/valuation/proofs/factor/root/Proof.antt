@@ -19,36 +19,12 @@ middle c = c .before .loop .low + (c .before .loop .high - c .before .loop .low)
 middle-high : (c : tie.In-loop Inv-loop μ-loop) → middle c ≤ 2060000
 middle-high c = omega arith
 
-loop-holds : tie.Need-loop-holds Inv-loop μ-loop
-loop-holds c = omega arith
-
-add-loop : tie.Need-add-loop Inv-loop μ-loop
-add-loop c = omega arith
-
-sub-middle : tie.Need-sub-middle Inv-loop μ-loop
-sub-middle c = omega arith
-
-add-middle : tie.Need-add-middle Inv-loop μ-loop
-add-middle c = omega arith
-
 mul-if1 : tie.Need-mul-if1 Inv-loop μ-loop
 mul-if1 c = omega (arith, mul-le-mul (middle-high c) (middle-high c))
 
 mul-if1-2 : tie.Need-mul-if1-2 Inv-loop μ-loop
 mul-if1-2 c =
     omega (arith, mul-le-mul (mul-le-mul (middle-high c) (middle-high c)) (c .before .before .pre .0))
-
-loop-less : tie.Need-loop-less Inv-loop μ-loop
-loop-less c = omega arith
-
-loop-again : tie.Need-loop-again Inv-loop μ-loop
-loop-again c = omega arith
-
-loop-less-2 : tie.Need-loop-less-2 Inv-loop μ-loop
-loop-less-2 c = omega arith
-
-loop-again-2 : tie.Need-loop-again-2 Inv-loop μ-loop
-loop-again-2 c = omega arith
 
 -- low and high are neighbours
 returns : tie.Need-returns Inv-loop μ-loop
@@ -59,17 +35,5 @@ returns c =
 pub root-spec : {M : Type 1} → statement M
 root-spec =
     tie.close
-    (tie.spec
-    Inv-loop
-    μ-loop
-    loop-holds
-    add-loop
-    sub-middle
-    add-middle
-    mul-if1
-    mul-if1-2
-    loop-less
-    loop-again
-    loop-less-2
-    loop-again-2
-    returns)
+    (tie.spec Inv-loop μ-loop (λ c. omega arith) (λ c. omega arith) (λ c. omega arith) (λ c. omega arith) mul-if1 mul-if1-2 (λ c. omega arith)
+    (λ c. omega arith) (λ c. omega arith) (λ c. omega arith) returns)

@@ -5,12 +5,10 @@ use Rattle.valuation.specs.Factor.{groupTwiceA}
 use Rattle.valuation.proofs.factor.twice_a_of.Statement.{statement}
 use Rattle.valuation.proofs.factor.twice_a_of.Tie as tie
 
-of-group-requires : tie.Need-of-group-requires
-of-group-requires c κs = search needs
-
 returns : tie.Need-returns
 unfolding groupTwiceA
 returns c = c .of-group .ensures
 
 pub twice-a-of-spec : {M : Type 1} → statement M
-twice-a-of-spec = tie.close (tie.spec of-group-requires returns)
+twice-a-of-spec = tie.close
+    (tie.spec (λ c κs. search needs) returns)

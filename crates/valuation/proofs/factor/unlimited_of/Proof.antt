@@ -21,27 +21,15 @@ product-fits z c m h i l =
 returns : tie.Need-returns
 returns c = simp (eq-eqb _ _ (c .if1 .taken))
 
-mul-result : tie.Need-mul-result
-mul-result c = search needs
-
 mul-result-2 : tie.Need-mul-result-2
 mul-result-2 c =
     let p = c .before .pre in
     omega (arith, counts-fit _ _ (p .0) (p .3))
 
-sub-result : tie.Need-sub-result
-sub-result c = search needs
-
 mul-result-3 : tie.Need-mul-result-3
 mul-result-3 c =
     let p = c .before .pre in
     omega (arith, product-fits _ _ _ (p .0) (p .3) (p .1))
-
-div-result : tie.Need-div-result
-div-result c = search needs
-
-sub-result-2 : tie.Need-sub-result-2
-sub-result-2 c = search needs
 
 add-result : tie.Need-add-result
 add-result c =
@@ -55,13 +43,4 @@ returns-2 c = simp (ne-eqb _ _ (c .if1 .left))
 pub unlimited-of-spec : {M : Type 1} → statement M
 unlimited-of-spec =
     tie.close
-    (tie.spec
-    returns
-    mul-result
-    mul-result-2
-    sub-result
-    mul-result-3
-    div-result
-    sub-result-2
-    add-result
-    returns-2)
+    (tie.spec returns (λ c. search needs) mul-result-2 (λ c. search needs) mul-result-3 (λ c. search needs) (λ c. search needs) add-result returns-2)

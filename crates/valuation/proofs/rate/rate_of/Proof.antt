@@ -8,12 +8,6 @@ use Rattle.valuation.specs.Rate.{valuationRate}
 use Rattle.valuation.proofs.rate.rate_of.Statement.{statement}
 use Rattle.valuation.proofs.rate.rate_of.Tie as tie
 
-recovery-requires : tie.Need-recovery-requires
-recovery-requires c κs = search needs
-
-death-requires : tie.Need-death-requires
-death-requires c κs = search needs
-
 -- the two rates, as they were looked up, are together at most 1,000,000
 both : (c : tie.After-death) → c .before .recovery .result + c .death .result ≤ 1000000
 both c =
@@ -34,4 +28,5 @@ returns c =
 
 pub rate-of-spec : {M : Type 1} → statement M
 rate-of-spec =
-    tie.close (tie.spec recovery-requires death-requires add-scaled scaled-requires returns)
+    tie.close
+    (tie.spec (λ c κs. search needs) (λ c κs. search needs) add-scaled scaled-requires returns)

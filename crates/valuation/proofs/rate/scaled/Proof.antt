@@ -25,14 +25,6 @@ mul-g c =
     let h : t * s ≤ 1000000000000 * 1000000 = mul-le-mul a b in
     omega arith
 
-returns-3 : tie.Need-returns-3
-returns-3 c = omega arith
-
-cast-result : tie.Need-cast-result
-cast-result c = omega arith
-
-returns-4 : tie.Need-returns-4
-returns-4 c = omega arith
-
 pub scaled-spec : {M : Type 1} → statement M
-scaled-spec = tie.close (tie.spec returns returns-2 mul-g returns-3 cast-result returns-4)
+scaled-spec = tie.close
+    (tie.spec returns returns-2 mul-g (λ c. omega arith) (λ c. omega arith) (λ c. omega arith))

@@ -9,9 +9,6 @@ use Rattle.valuation.proofs.Answers.{rate-table, rate-duration, rate-fo
 use Rattle.valuation.proofs.rate.valuation_rate.Statement.{statement}
 use Rattle.valuation.proofs.rate.valuation_rate.Tie as tie
 
-check-requires : tie.Need-check-requires
-check-requires c κs = search needs
-
 returns : tie.Need-returns
 returns c = rate-table _ _ _ (c .before .check .ensures) _ _ (c .if1 .taken)
 
@@ -28,9 +25,6 @@ returns-3 c =
     rate-duration _ _ _ (c .before .before .before .check .ensures) _ _ (c .before .before .if1 .left)
     (simp (lt-leb d 480 (omega arith), and-false))
 
-rate-of-requires : tie.Need-rate-of-requires
-rate-of-requires c κs = search needs
-
 returns-4 : tie.Need-returns-4
 unfolding durationSound
 returns-4 c =
@@ -41,4 +35,5 @@ returns-4 c =
 
 pub valuation-rate-spec : {M : Type 1} → statement M
 valuation-rate-spec =
-    tie.close (tie.spec check-requires returns returns-2 returns-3 rate-of-requires returns-4)
+    tie.close
+    (tie.spec (λ c κs. search needs) returns returns-2 returns-3 (λ c κs. search needs) returns-4)

@@ -20,17 +20,8 @@ loop-holds : tie.Need-loop-holds Inv-loop μ-loop
 unfolding running start
 loop-holds c = (omega arith, rw (zero-bits, one-bits))
 
-month-rate-requires : tie.Need-month-rate-requires Inv-loop μ-loop
-month-rate-requires c κs = search needs
-
 step-requires : tie.Need-step-requires Inv-loop μ-loop
 step-requires c κs = rw (c .month-rate .ensures) (month-rate-bound _ _ _ _ _)
-
-add-n : tie.Need-add-n Inv-loop μ-loop
-add-n c = omega arith
-
-loop-less : tie.Need-loop-less Inv-loop μ-loop
-loop-less c = omega arith
 
 loop-again : tie.Need-loop-again Inv-loop μ-loop
 unfolding running
@@ -47,13 +38,4 @@ returns c =
 pub after-spec : {M : Type 1} → statement M
 after-spec =
     tie.close
-    (tie.spec
-    Inv-loop
-    μ-loop
-    loop-holds
-    month-rate-requires
-    step-requires
-    add-n
-    loop-less
-    loop-again
-    returns)
+    (tie.spec Inv-loop μ-loop loop-holds (λ c κs. search needs) step-requires (λ c. omega arith) (λ c. omega arith) loop-again returns)

@@ -4,9 +4,6 @@ use Rattle.valuation.specs.Reserve.{monthDuration}
 use Rattle.valuation.proofs.reserve_factor.later.Statement.{statement}
 use Rattle.valuation.proofs.reserve_factor.later.Tie as tie
 
-add-reached : tie.Need-add-reached
-add-reached c = omega arith
-
 returns : tie.Need-returns
 unfolding monthDuration
 returns c = omega arith
@@ -16,4 +13,5 @@ unfolding monthDuration
 returns-2 c = omega arith
 
 pub later-spec : {M : Type 1} → statement M
-later-spec = tie.close (tie.spec add-reached returns returns-2)
+later-spec = tie.close
+    (tie.spec (λ c. omega arith) returns returns-2)

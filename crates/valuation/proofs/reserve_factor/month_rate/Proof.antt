@@ -6,26 +6,11 @@ use Rattle.valuation.specs.Reserve.{groupT, monthRate}
 use Rattle.valuation.proofs.reserve_factor.month_rate.Statement.{statement}
 use Rattle.valuation.proofs.reserve_factor.month_rate.Tie as tie
 
-later-requires : tie.Need-later-requires
-later-requires c κs = search needs
-
-group-requires : tie.Need-group-requires
-group-requires c κs = search needs
-
-cast-place : tie.Need-cast-place
-cast-place c = search needs
-
 sub-place : tie.Need-sub-place
 sub-place c = omega (arith, group-low (c .before .later .result .0))
 
-mul-rate-of : tie.Need-mul-rate-of
-mul-rate-of c = search needs
-
 array-read-rate-of : tie.Need-array-read-rate-of
 array-read-rate-of c = omega (arith, group-high (c .before .later .result .0))
-
-rate-of-requires : tie.Need-rate-of-requires
-rate-of-requires c κs = search needs
 
 returns : tie.Need-returns
 unfolding monthRate groupT
@@ -34,12 +19,5 @@ returns c = rw (c .rate-of .ensures, c .before .group .ensures, c .before .befor
 pub month-rate-spec : {M : Type 1} → statement M
 month-rate-spec =
     tie.close
-    (tie.spec
-    later-requires
-    group-requires
-    cast-place
-    sub-place
-    mul-rate-of
-    array-read-rate-of
-    rate-of-requires
-    returns)
+    (tie.spec (λ c κs. search needs) (λ c κs. search needs) (λ c. search needs) sub-place (λ c. search needs) array-read-rate-of
+    (λ c κs. search needs) returns)

@@ -7,7 +7,7 @@ use borrow.Author.Tests.{le-leb, lt-leb}
 use native.Mathlib.Omega.{arith}
 use lib.Dec.{leb}
 use Rattle.valuation.specs.Rate.{durationSound}
-use Rattle.valuation.specs.Reserve.{factor}
+use Rattle.valuation.specs.Reserve.{reserveOf}
 use Rattle.valuation.proofs.Answers.{
   reserve-table,
   reserve-duration,
@@ -19,9 +19,6 @@ use Rattle.valuation.proofs.Answers.{
 }
 use Rattle.valuation.proofs.reserve_factor.reserve_factor.Statement.{statement}
 use Rattle.valuation.proofs.reserve_factor.reserve_factor.Tie as tie
-
-check-requires : tie.Need-check-requires
-check-requires c κs = search needs
 
 returns : tie.Need-returns
 returns c = reserve-table _ _ _ (c .before .check .ensures) _ _ _ _ (c .if1 .taken)
@@ -45,9 +42,6 @@ returns-4 c =
     let n : ℕ = c .before .before .before .before .before .before .args .months in
     reserve-duration _ _ _ (c .before .before .before .before .check .ensures) _ _ _ _ (c .before .before .before .if1 .left)
     (simp (lt-leb n 480 (omega arith), and-false))
-
-after-requires : tie.Need-after-requires
-after-requires c κs = search needs
 
 -- past the tests on numbers the check 12 has passed
 numbers-pass :
@@ -73,7 +67,7 @@ returns-7 c =
     (numbers-pass e) (discount-under _ (c .if5 .left))
 
 returns-5 : tie.Need-returns-5
-unfolding factor
+unfolding reserveOf
 returns-5 c =
     let e = c .before .before .before in
     rw (c .after .ensures)
@@ -83,13 +77,4 @@ returns-5 c =
 pub reserve-factor-spec : {M : Type 1} → statement M
 reserve-factor-spec =
     tie.close
-    (tie.spec
-    check-requires
-    returns
-    returns-2
-    returns-3
-    returns-4
-    after-requires
-    returns-5
-    returns-6
-    returns-7)
+    (tie.spec (λ c κs. search needs) returns returns-2 returns-3 returns-4 (λ c κs. search needs) returns-5 returns-6 returns-7)

@@ -5,15 +5,10 @@ use Rattle.valuation.proofs.ReserveLaws.{million-bits}
 use Rattle.valuation.proofs.reserve_factor.step.Statement.{statement}
 use Rattle.valuation.proofs.reserve_factor.step.Tie as tie
 
-sub-p : tie.Need-sub-p
-sub-p c = search needs
-
-int-to-float-p : tie.Need-int-to-float-p
-int-to-float-p c = search needs
-
 returns : tie.Need-returns
 unfolding month float
 returns c = rw million-bits
 
 pub step-spec : {M : Type 1} → statement M
-step-spec = tie.close (tie.spec sub-p int-to-float-p returns)
+step-spec = tie.close
+    (tie.spec (λ c. search needs) (λ c. search needs) returns)

@@ -1,0 +1,54 @@
+-- Document 01, the table of refusals: the numbers under their words, and the first check that failed.
+use Prim.Native.Nat.{ℕ}
+use mathlib.Core.Bool.{Bool}
+use lib.Dec.{eqb}
+use Rattle.basics.specs.Pick.{pick}
+
+-- the numbers of the table, under its words
+abbrev pub refuse-window : ℕ
+refuse-window = 1
+
+abbrev pub refuse-date : ℕ
+refuse-date = 2
+
+abbrev pub refuse-status : ℕ
+refuse-status = 3
+
+abbrev pub refuse-sequence : ℕ
+refuse-sequence = 4
+
+abbrev pub refuse-short-elimination : ℕ
+refuse-short-elimination = 5
+
+abbrev pub refuse-rate-table : ℕ
+refuse-rate-table = 6
+
+abbrev pub refuse-cell : ℕ
+refuse-cell = 7
+
+abbrev pub refuse-rate : ℕ
+refuse-rate = 8
+
+abbrev pub refuse-full : ℕ
+refuse-full = 9
+
+abbrev pub refuse-short-list : ℕ
+refuse-short-list = 10
+
+abbrev pub refuse-block : ℕ
+refuse-block = 11
+
+abbrev pub refuse-valuation : ℕ
+refuse-valuation = 12
+
+abbrev pub refuse-discount : ℕ
+refuse-discount = 13
+
+-- a check: 0 where the test says that all is sound, else its number
+abbrev pub check : Bool → ℕ → ℕ
+check sound number = pick sound 0 number
+
+infixr 5 _then_
+-- a then b: the number of the first check that failed, which is a unless a is 0
+unfoldable pub _then_ : ℕ → ℕ → ℕ
+a then b = pick (eqb a 0) b a

@@ -1,0 +1,5 @@
+// What no layer owns: the unit that several layers share, and the numbers of the refusals.
+pub mod refusal;
+
+// A duration in months. A unit of its own.
+pub struct Duration(pub u32);

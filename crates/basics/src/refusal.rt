@@ -1,0 +1,26 @@
+// The numbers of document 01's table of refusals, under its words.
+pub const WINDOW: u8 = 1;
+
+pub const DATE: u8 = 2;
+
+pub const STATUS: u8 = 3;
+
+pub const SEQUENCE: u8 = 4;
+
+pub const SHORT_ELIMINATION: u8 = 5;
+
+pub const RATE_TABLE: u8 = 6;
+
+pub const CELL: u8 = 7;
+
+pub const RATE: u8 = 8;
+
+pub const FULL: u8 = 9;
+
+pub const SHORT_LIST: u8 = 10;
+
+pub const BLOCK: u8 = 11;
+
+pub const VALUATION: u8 = 12;
+
+pub const DISCOUNT: u8 = 13;

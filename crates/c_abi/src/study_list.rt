@@ -1,0 +1,74 @@
+// A study as a list of 43 numbers.
+ghost use mathlib.Core.Path.{_≡_};
+ghost use Prim.Native.Nat.{_+_, _*_, _≤_, _<_};
+ghost use denote.Ref.{now};
+ghost use lib.IntN.{pos};
+ghost use lib.ListN.{length};
+ghost use lib.Seq.{sets};
+ghost use mathlib.Core.List.{[], _∷_};
+ghost use Rattle.c_abi.specs.Abi.{countNumbers, groupNumbers, groupsNumbers, studyNumbers};
+use study::Group;
+use study::Study;
+use study::Sums;
+
+// A number as a signed one.
+pub(crate) fn signed(number: u32) -> i64
+    ensures { λ r. ⌜ r ≡ pos number ⌝ }
+{
+    number as i64
+}
+
+// Stores a number.
+pub(crate) fn put(number: i64, at: usize, out: &mut [i64])
+    requires { ⌜ at < length (now out) ⌝ }
+    ensures { λ _. ⌜ now (out .exit) ≡ sets (now (out .entry)) at (number ∷ []) ⌝ }
+{
+    out[at] = number;
+}
+
+// Stores a group's five closing counts.
+fn put_counts(counts: [u32; 5], at: usize, out: &mut [i64])
+    requires { ⌜ at + 5 ≤ length (now out) ⌝ }
+    ensures { λ _. ⌜ now (out .exit) ≡ sets (now (out .entry)) at (countNumbers counts) ⌝ }
+{
+    for x in 0..5 {
+        put(signed(counts[x]), at + x, out);
+    }
+}
+
+// Stores the eight numbers of a group.
+fn put_group(figures: Group, at: usize, out: &mut [i64])
+    requires { ⌜ at + 8 ≤ length (now out) ⌝ }
+    ensures { λ _. ⌜ now (out .exit) ≡ sets (now (out .entry)) at (groupNumbers figures) ⌝ }
+{
+    let thirtieths = figures.thirtieths;
+    let closings = figures.closings;
+    let recoveries = figures.recoveries;
+    let deaths = figures.deaths;
+    put(thirtieths, at, out);
+    put_counts(closings, at + 1, out);
+    put(recoveries, at + 6, out);
+    put(deaths, at + 7, out);
+}
+
+// Stores the numbers of the five groups.
+fn put_groups(sums: Sums, at: usize, out: &mut [i64])
+    requires { ⌜ at + 40 ≤ length (now out) ⌝ }
+    ensures { λ _. ⌜ now (out .exit) ≡ sets (now (out .entry)) at (groupsNumbers sums 5) ⌝ }
+{
+    for group in 0..5 {
+        put_group(sums.group(group as u8 + 1), at + 8 * group, out);
+    }
+}
+
+// Stores a study's 43 numbers from a place on.
+pub(crate) fn put_study(study: Study, at: usize, out: &mut [i64])
+    requires { ⌜ at + 43 ≤ length (now out) ⌝ }
+    ensures { λ _. ⌜ now (out .exit) ≡ sets (now (out .entry)) at (studyNumbers study) ⌝ }
+{
+    let sums = study.sums;
+    put(signed(study.window.first.0), at, out);
+    put(signed(study.window.last.0), at + 1, out);
+    put(signed(study.taken), at + 2, out);
+    put_groups(sums, at + 3, out);
+}

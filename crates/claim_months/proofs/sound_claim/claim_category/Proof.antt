@@ -1,0 +1,71 @@
+-- `claim_months::sound_claim::claim_category` meets its contract: a missing maximum leaves the code, and a known one decides by the days between.
+-- Assumes nothing.
+use Prim.Native.Nat.{_≤_}
+use mathlib.Core.Path.{_≡_, sym, _∙_}
+use mathlib.Core.Bool.{Bool, true, false}
+use native.Mathlib.Omega.{arith}
+use borrow.Author.Tests.{eq-eqb, ne-eqb}
+use Rattle.basics.specs.Pick.{pick}
+use Rattle.calendar.specs.Calendar.{lastDayNumber}
+use Rattle.calendar.proofs.Laws.{day-last}
+use Rattle.claim_months.specs.declared.Claim.{Claim}
+use Rattle.claim_months.specs.declared.ClaimDays.{ClaimDays}
+use Rattle.claim_months.specs.Claim.{within, isMissing, isClosed, category, claimCheck}
+use Rattle.claim_months.specs.Private.{daysOf}
+use Rattle.claim_months.proofs.Sound.{sound}
+use borrow.Author.Needs.{needs}
+use Rattle.claim_months.proofs.sound_claim.claim_category.Statement.{statement}
+use Rattle.claim_months.proofs.sound_claim.claim_category.Tie as tie
+
+module _ (c : Claim) (z : isClosed c ≡ true) where
+  -- a missing maximum leaves the code
+  unknown : isMissing (c .maximum) ≡ true → c .code ≡ pick (isClosed c) (category c) 0
+  unfolding category
+  unknown m = simp (z, m)
+
+  -- with a known one, near or not decides
+  module _ (x : ClaimDays) (h : x ≡ daysOf c) (m : isMissing (c .maximum) ≡ false) where
+    decided : (n : Bool) → n ≡ within 45 (x .termination .0) (x .maximum .0) → pick (isClosed c) (category c) 0 ≡ pick n 4 (c .code)
+    unfolding category
+    decided n f = rw (f, h, z, m)
+
+    days-high : claimCheck c ≡ 0 → (x .termination .0 ≤ lastDayNumber) × (x .maximum .0 ≤ lastDayNumber)
+    days-high p = let s = sound c p in rw (h, z, m) (day-last (c .termination) (s .termination-date z), day-last (c .maximum) (s .maximum-date m))
+
+returns : tie.Need-returns
+unfolding isClosed
+returns c = simp (ne-eqb _ _ (c .if1 .taken))
+
+closed : (c : tie.Else1) → isClosed (c .before .before .args .claim) ≡ true
+unfolding isClosed
+closed c = eq-eqb _ _ (c .if1 .left)
+
+returns-2 : tie.Need-returns-2
+returns-2 c = unknown _ (closed (c .before .before)) (sym (c .before .is-missing .ensures) ∙ c .if2 .taken)
+
+known : (c : tie.Else2) → isMissing (c .before .before .before .before .args .claim .maximum) ≡ false
+known c = sym (c .before .is-missing .ensures) ∙ c .if2 .left
+
+near-requires : tie.Need-near-requires
+near-requires c κs = let s = c .before .before .before .before in days-high _ (closed (c .before .before)) _ (s .pre .1) (known c) (s .pre .0)
+
+by-near : (c : tie.After-near) →
+    let d = c .before .before .before .before .before .args .claim in
+    pick (isClosed d) (category d) 0 ≡ pick (c .near .result) 4 (d .code)
+by-near c =
+    let e2 = c .before in
+    let s = e2 .before .before .before .before in
+    decided _ (closed (e2 .before .before)) _ (s .pre .1) (known e2) _ (c .near .ensures)
+
+returns-3 : tie.Need-returns-3
+returns-3 c =
+    let e = by-near (c .before) in
+    let n = rw (c .if3 .taken) at e in omega arith
+
+returns-4 : tie.Need-returns-4
+returns-4 c = simp (by-near (c .before), c .if3 .left)
+
+pub claim-category-spec : {M : Type 1} → statement M
+claim-category-spec =
+    tie.close
+    (tie.spec returns (λ c κs. search needs) returns-2 near-requires returns-3 returns-4)

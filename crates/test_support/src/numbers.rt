@@ -1,0 +1,20 @@
+// Signed numbers as 64 bits, in which the tests add and print them: a sum may be past either end.
+ghost use mathlib.Core.Path.{_≡_};
+ghost use Rattle.test_support.specs.Bits.{bitsOf};
+
+// A signed number's 64 bits: a negative one as 2^64 more.
+pub fn bits(x: i64) -> u64
+    ensures { λ r. ⌜ r ≡ bitsOf x ⌝ }
+{
+    if x < 0 {
+        return 18446744073709551615 - (-1 - x) as u64;
+    }
+    x as u64
+}
+
+// The same of a number of 32 bits.
+pub fn bits_of_short(x: i32) -> u64
+    ensures { λ r. ⌜ r ≡ bitsOf x ⌝ }
+{
+    bits(x as i64)
+}
