@@ -6,10 +6,12 @@ use std::fmt::Write;
 
 /// The program takes at most 16 cells.
 const MOST_PROGRAM_CELLS: usize = 16;
+/// In bytes.
+pub const LONGEST_RATES_FILE: usize = MOST_PROGRAM_CELLS * CELL_LENGTH * 4;
 
 /// The rates of `rates.bin`: four bytes each, low byte first; longer than 16 cells or with a part number left over, an empty table.
 pub fn decode_rates(bytes: &[u8]) -> Vec<u32> {
-    if bytes.len() > MOST_PROGRAM_CELLS * CELL_LENGTH * 4 || !bytes.len().is_multiple_of(4) {
+    if bytes.len() > LONGEST_RATES_FILE || !bytes.len().is_multiple_of(4) {
         return Vec::new();
     }
     bytes.chunks_exact(4).map(|b| u32::from_le_bytes([b[0], b[1], b[2], b[3]])).collect()

@@ -14,24 +14,24 @@ pub struct FileRun {
     pub study: Study,
 }
 
-/// Runs blocks 0, 1, 2, .. in order up to the first refusal.
+/// Runs a file's blocks 0, 1, 2, .. in order up to the first refusal. A part block at the end comes last and fails by its length.
 pub fn run_file(file: &[u8], rates: &[u32]) -> FileRun {
-    let rates = RateTable::new(rates);
+    run_blocks(file.chunks(BLOCK_LENGTH), rates)
+}
+
+/// Runs blocks as they come, and asks for none after the first refusal.
+pub fn run_blocks<B: AsRef<[u8]>>(blocks: impl Iterator<Item = B>, rates: &[u32]) -> FileRun {
     let mut study = Study::unopened();
-    match run_blocks(file, &rates, &mut study) {
+    match take_blocks(blocks, &RateTable::new(rates), &mut study) {
         Ok(()) => FileRun { refused: 0, block: 0, place: 0, study },
         Err((refusal, block, place)) => FileRun { refused: refusal.number(), block, place, study },
     }
 }
 
-fn run_blocks(file: &[u8], rates: &RateTable, study: &mut Study) -> Result<(), (Refusal, u32, u32)> {
-    // A file without block 0.
-    if file.is_empty() {
-        return Err((Refusal::Block, 0, 0));
-    }
-    // A part block at the end comes last and fails by its length.
-    for (due, bytes) in (0u32..).zip(file.chunks(BLOCK_LENGTH)) {
-        match read_block(bytes, due).map_err(|refusal| (refusal, due, 0))? {
+fn take_blocks<B: AsRef<[u8]>>(blocks: impl Iterator<Item = B>, rates: &RateTable, study: &mut Study) -> Result<(), (Refusal, u32, u32)> {
+    let mut due = 0;
+    for bytes in blocks {
+        match read_block(bytes.as_ref(), due).map_err(|refusal| (refusal, due, 0))? {
             Block::Window(first, last) => {
                 *study = Study::open(first, last).map_err(|refusal| (refusal, due, 0))?;
             }
@@ -41,6 +41,11 @@ fn run_blocks(file: &[u8], rates: &RateTable, study: &mut Study) -> Result<(), (
                 }
             }
         }
+        due += 1;
+    }
+    // A file without block 0.
+    if due == 0 {
+        return Err((Refusal::Block, 0, 0));
     }
     Ok(())
 }

@@ -1,0 +1,78 @@
+//! Inputs that the tests of several subjects use: dates and claims from text, claims, rates and files at random.
+
+use second::calendar::{Date, Day};
+use second::claim::{Claim, CLOSED, OPEN};
+use second::generate::{claim_file, damage_claim, sound_claim, sound_rates, sound_window};
+use second::rng::Rng;
+use second::study::DURATIONS;
+
+pub fn date(text: &str) -> Date {
+    let mut parts = text.split('-').map(|part| part.parse().unwrap());
+    let [year, month, day]: [u16; 3] = std::array::from_fn(|_| parts.next().unwrap());
+    Date::new(year, month as u8, day as u8)
+}
+
+pub fn day(text: &str) -> Day {
+    date(text).day_number().unwrap()
+}
+
+pub const STUDY_WINDOW: (Date, Date) = (Date::new(2009, 1, 1), Date::new(2017, 12, 31));
+
+pub fn with_elimination(bcd: &str, days: i32) -> Claim {
+    Claim { number: 1, disability: (day(bcd) + -days).date(), bcd: date(bcd), status: OPEN, ..Claim::default() }
+}
+
+pub fn open_claim(bcd: &str) -> Claim {
+    with_elimination(bcd, 90)
+}
+
+pub fn closed_claim(bcd: &str, termination: &str, code: u8) -> Claim {
+    Claim { termination: date(termination), status: CLOSED, code, ..open_claim(bcd) }
+}
+
+pub fn flat_rates(recovery: u32, death: u32) -> Vec<u32> {
+    [[recovery; DURATIONS], [death; DURATIONS]].concat()
+}
+
+pub fn sound_claims(rng: &mut Rng, count: usize, cells: usize) -> Vec<Claim> {
+    (0..count).map(|_| Claim { cell: rng.below(cells as u64) as u8, ..sound_claim(rng) }).collect()
+}
+
+/// A window, claims that are accepted with the rates, and the rates.
+pub fn sound_study(rng: &mut Rng, most_claims: i64) -> ((Date, Date), Vec<Claim>, Vec<u32>) {
+    let cells = rng.range(1, 4) as usize;
+    let rates = sound_rates(rng, cells);
+    let count = rng.range(0, most_claims) as usize;
+    let claims = sound_claims(rng, count, cells);
+    let about = claims.first().copied().unwrap_or_default();
+    (sound_window(rng, &about), claims, rates)
+}
+
+/// The file of some claims: blocks filled up, or at random.
+pub fn file_of(rng: &mut Rng, window: (Date, Date), claims: &[Claim]) -> Vec<u8> {
+    let filled = rng.one_in(2);
+    claim_file(window, claims, if filled { None } else { Some(rng) })
+}
+
+/// Claims with any bytes in their fields, sound ones among them.
+pub fn any_claims(rng: &mut Rng, count: usize) -> Vec<Claim> {
+    let mut claims = Vec::new();
+    for _ in 0..count {
+        let mut claim = sound_claim(rng);
+        if rng.one_in(2) {
+            damage_claim(rng, &mut claim);
+        }
+        if rng.one_in(4) {
+            claim.disability = Date::from_number(rng.bits() as u32);
+            claim.code = rng.bits() as u8;
+        }
+        claims.push(claim);
+    }
+    claims
+}
+
+/// A number whose length in bits is random too.
+pub fn any_length(rng: &mut Rng) -> u64 {
+    let shift = rng.below(64);
+    rng.bits() >> shift
+}

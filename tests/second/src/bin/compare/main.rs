@@ -1,0 +1,60 @@
+//! Compares every call of the first implementation with the second one: document 01's examples, and seeded random inputs, long and short,
+//! sound and damaged. A mismatch prints the whole input and ends its test; the last line counts the tests.
+//!
+//! Run: LTD_LIB_DIR=(the directory of libc_abi.a) cargo run --release --features first --bin compare
+
+mod blocks;
+mod figures;
+mod file_runs;
+mod inputs;
+mod listing;
+mod one_input;
+mod short_lists;
+mod valuation;
+mod windows;
+
+use second::rng::Rng;
+use std::io::{stdout, Write as _};
+use std::process::exit;
+use std::time::Instant;
+
+/// The number of inputs compared, or the first input on which the implementations differ.
+type Outcome = Result<u64, String>;
+
+struct Test {
+    name: &'static str,
+    /// Of its random inputs; 0 if it has none.
+    seed: u64,
+    run: fn(&mut Rng) -> Outcome,
+}
+
+const fn test(name: &'static str, seed: u64, run: fn(&mut Rng) -> Outcome) -> Test {
+    Test { name, seed, run }
+}
+
+/// The tests of each subject, in the order they are run.
+const SUBJECTS: &[&[Test]] =
+    &[figures::TESTS, listing::TESTS, file_runs::TESTS, windows::TESTS, valuation::TESTS, blocks::TESTS, short_lists::TESTS];
+
+fn main() {
+    let (mut passed, mut failed, mut inputs) = (0, 0, 0);
+    let begin = Instant::now();
+    for test in SUBJECTS.iter().copied().flatten() {
+        print!("{} (seed {}): ", test.name, test.seed);
+        stdout().flush().unwrap();
+        match (test.run)(&mut Rng::new(test.seed)) {
+            Ok(n) => {
+                passed += 1;
+                inputs += n;
+                println!("ok, {n} inputs");
+            }
+            Err(input) => {
+                failed += 1;
+                println!("FAILED\n{input}");
+            }
+        }
+    }
+    println!("{inputs} inputs in {:.1} seconds", begin.elapsed().as_secs_f64());
+    println!("{passed} passed, {failed} failed");
+    exit(if failed > 0 { 1 } else { 0 });
+}
