@@ -1,4 +1,5 @@
-/* The engine's calls for C and Rust. A slice is a pointer and a length. No call keeps a pointer or writes outside the lent lists.
+/* The engine's calls for C and Rust. A slice is a pointer and a length in elements. No call keeps a pointer or writes outside the lent lists.
+   A null list has length 0. A list that is written may overlap no other list of the call; a list too long is taken, its rest untouched.
    A date is the claim file's four bytes as one number, low byte first: year + 65,536 × month + 16,777,216 × day.
    A claim is eight numbers: claim number, disability date, BCD, termination date, maximum date, status, code, cell.
    A refusal is the number of document 01's table. 255 says that a lent list has not the length asked for; nothing is written then. */
@@ -6,6 +7,35 @@
 #define LTD_STUDY_H
 #include <stddef.h>
 #include <stdint.h>
+#ifdef __cplusplus
+extern "C" {
+#endif
+
+/* A claim's record: the claim file's own 32 bytes, which on a machine with its low byte first is this struct. */
+struct ltd_claim {
+    uint32_t number;
+    uint32_t disability;
+    uint32_t bcd;
+    uint32_t termination;
+    uint32_t maximum;
+    uint8_t status;
+    uint8_t code;
+    uint8_t cell;
+    uint8_t zero[9];
+};
+
+/* Opens a study of the window first..last. A study is 43 numbers: first day number and last day number of the window, claims taken; then for
+   each group: thirtieths, five closing counts (recovery, death, settlement, max-out, limit), expected recoveries, expected deaths. Answers 0,
+   or 1 with the study of 1950-01-01 alone. 255 if study is shorter than 43; nothing is written then. */
+uint8_t ltd_open(uint32_t first, uint32_t last, int64_t *study, size_t study_len);
+
+/* Adds a claim, the 32 bytes of its record, to a study. Answers 0 or the number refused (1 to 9), study untouched. 255, study untouched, if
+   study is shorter than 43 or has days, claims taken or a closing count outside 0 to 2^32 - 1, or if claim has fewer than 32 bytes or one
+   of its bytes 23 to 31 is not zero. */
+uint8_t ltd_add(int64_t *study, size_t study_len, const uint8_t *claim, size_t claim_len, const uint32_t *rates, size_t rates_len);
+
+/* The dates of block 0's window into dates (2 numbers). Answers 0 or 11, dates untouched. 255 if dates is shorter than 2. */
+uint8_t ltd_read_window(const uint8_t *block, size_t block_len, uint32_t *dates, size_t dates_len);
 
 /* The month records of a claim in the window first..last, six numbers each into list. Answers how many, or 2^32 + the number refused
    (1 to 5, 10), list untouched. */
@@ -39,4 +69,7 @@ uint8_t ltd_write_block(uint32_t number, uint32_t count, const uint32_t *claims,
 
 /* Writes block 0 with a window's dates into block (512 bytes). Answers 0 or 11. */
 uint8_t ltd_write_window(uint32_t first, uint32_t last, uint8_t *block, size_t block_len);
+#ifdef __cplusplus
+}
+#endif
 #endif

@@ -1,5 +1,7 @@
--- What the proofs of the calls cite. `Lent`: a lent list that is short or long enough. `StudyLists`: the numbers of a
+-- What the proofs of the calls cite. `Lent`: a lent list that is short or long enough. `StudyForms`: the form of a study. `AddAnswers`: which tests lead to which answer of `ltd_add`. `StudyLists`: the numbers of a
 -- run. `Claims`: those of claims.
 mod Lent
 mod StudyLists
+mod StudyForms
+mod AddAnswers
 mod Claims

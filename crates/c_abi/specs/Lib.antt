@@ -1,2 +1,3 @@
 -- What the calls for C and Rust answer, and what they leave in the lent lists.
 pub mod Abi
+pub mod StudyCalls

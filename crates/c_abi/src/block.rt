@@ -8,6 +8,7 @@ ghost use lib.ListN.{length};
 ghost use lib.Seq.{sets};
 ghost use Rattle.basics.specs.Pick.{pick};
 ghost use Rattle.claim_file.specs.Answers.{noClaim, blockCheck, windowOf, readOf, windowAfter};
+ghost use Rattle.c_abi.specs.StudyCalls.{windowNumber, datesStored};
 ghost use Rattle.c_abi.specs.Abi.{dateIn, dateNumber, claimDates, claimNumbers, claimsNumbers, windowStored, readStored, claimAt, bytesAt, allBytes, placed, writeAnswer, writeAfter, answered, stored};
 use crate::listing::claim_in;
 use crate::listing::date_in;
@@ -110,6 +111,25 @@ pub extern "C" fn ltd_read_block(block: &[u8], due: u32, out: &mut [u32]) -> u8
         return read_window(block, out);
     }
     read_claims(block, due, out)
+}
+
+// Reads the dates of block 0's window.
+#[no_mangle]
+pub extern "C" fn ltd_read_window(block: &[u8], dates: &mut [u32]) -> u8
+    ensures { λ r. ⌜ r ≡ answered 2 (now (dates .entry)) (windowNumber (windowOf (now (block .entry)))) ⌝ }
+    ensures { λ _. ⌜ now (dates .exit) ≡ stored 2 (now (dates .entry)) (datesStored (now (dates .entry)) (windowOf (now (block .entry)))) ⌝ }
+{
+    if dates.len() < 2 {
+        return 255;
+    }
+    match claim_file::blocks::read_window(block) {
+        MaybeDates::Known(window) => {
+            dates[0] = date_number(window.first);
+            dates[1] = date_number(window.last);
+            0
+        }
+        MaybeDates::Refused(number) => number,
+    }
 }
 
 // The claim whose eight numbers start at a place.

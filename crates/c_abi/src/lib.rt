@@ -3,4 +3,5 @@ mod block;
 mod factors;
 mod file;
 mod listing;
+mod study_calls;
 mod study_list;

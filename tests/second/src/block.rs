@@ -7,6 +7,8 @@ use crate::Refusal;
 pub const BLOCK_LENGTH: usize = 512;
 pub const CLAIM_LENGTH: usize = 32;
 pub const MOST_IN_BLOCK: usize = 15;
+/// Where the bytes of a record that must be zero start.
+pub const ZEROS_AT: usize = 23;
 const COUNT_AT: usize = 2;
 const CLAIMS_AT: usize = 16;
 const WINDOW_END: usize = CLAIMS_AT + 8;
@@ -65,16 +67,13 @@ pub fn read_block(block: &[u8], due: u32) -> Result<Block, Refusal> {
 
     let (used, unused) = block[CLAIMS_AT..CHECK_AT].split_at(count * CLAIM_LENGTH);
     let mut claims = [Claim::default(); MOST_IN_BLOCK];
-    let mut zero = all_zero(unused);
+    if !all_zero(unused) {
+        return Err(Refusal::Block);
+    }
     for (claim, bytes) in claims.iter_mut().zip(used.chunks_exact(CLAIM_LENGTH)) {
-        zero &= all_zero(&bytes[23..]);
-        *claim = decode_claim(bytes);
+        *claim = read_claim(bytes).ok_or(Refusal::Block)?;
     }
-    if zero {
-        Ok(Block::Claims(ClaimBlock { count, claims }))
-    } else {
-        Err(Refusal::Block)
-    }
+    Ok(Block::Claims(ClaimBlock { count, claims }))
 }
 
 /// Writes a claim block. Check 11: the length, more than 15 claims, or claims as block 0; a number no block can carry is refused too.
@@ -90,7 +89,7 @@ pub fn write_block(number: u32, claims: &[Claim], block: &mut [u8]) -> Result<()
     block[..2].copy_from_slice(&carried.to_le_bytes());
     block[COUNT_AT] = claims.len() as u8;
     for (bytes, claim) in block[CLAIMS_AT..].chunks_exact_mut(CLAIM_LENGTH).zip(claims) {
-        encode_claim(claim, bytes);
+        bytes.copy_from_slice(&claim_record(claim));
     }
     seal(block);
     Ok(())
@@ -116,8 +115,13 @@ fn date_at(bytes: &[u8], at: usize) -> Date {
     Date::from_bytes(four(bytes, at))
 }
 
-fn decode_claim(bytes: &[u8]) -> Claim {
-    Claim {
+/// The claim of a record, the first 32 bytes; none if there are fewer or one of the bytes 23 to 31 is not zero.
+pub fn read_claim(bytes: &[u8]) -> Option<Claim> {
+    let bytes = bytes.get(..CLAIM_LENGTH)?;
+    if !all_zero(&bytes[ZEROS_AT..]) {
+        return None;
+    }
+    Some(Claim {
         number: u32::from_le_bytes(four(bytes, 0)),
         disability: date_at(bytes, 4),
         bcd: date_at(bytes, 8),
@@ -126,10 +130,12 @@ fn decode_claim(bytes: &[u8]) -> Claim {
         status: bytes[20],
         code: bytes[21],
         cell: bytes[22],
-    }
+    })
 }
 
-fn encode_claim(claim: &Claim, bytes: &mut [u8]) {
+/// A claim's record.
+pub fn claim_record(claim: &Claim) -> [u8; CLAIM_LENGTH] {
+    let mut bytes = [0; CLAIM_LENGTH];
     bytes[..4].copy_from_slice(&claim.number.to_le_bytes());
     bytes[4..8].copy_from_slice(&claim.disability.to_bytes());
     bytes[8..12].copy_from_slice(&claim.bcd.to_bytes());
@@ -138,4 +144,5 @@ fn encode_claim(claim: &Claim, bytes: &mut [u8]) {
     bytes[20] = claim.status;
     bytes[21] = claim.code;
     bytes[22] = claim.cell;
+    bytes
 }

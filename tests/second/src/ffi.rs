@@ -8,6 +8,12 @@ use crate::claim::Claim;
 mod c {
     #[link(name = "c_abi", kind = "static")]
     extern "C" {
+        pub fn ltd_open(first: u32, last: u32, study: *mut i64, study_len: usize) -> u8;
+
+        pub fn ltd_add(study: *mut i64, study_len: usize, claim: *const u8, claim_len: usize, rates: *const u32, rates_len: usize) -> u8;
+
+        pub fn ltd_read_window(block: *const u8, block_len: usize, dates: *mut u32, dates_len: usize) -> u8;
+
         pub fn ltd_listing(
             first: u32,
             last: u32,
@@ -52,6 +58,21 @@ mod c {
 
 // In every wrapper pointer and length come from one slice, and the header promises that no call keeps a pointer or writes outside the
 // lent lists.
+
+/// The study of a window into `study` (43 numbers).
+pub fn open(first: u32, last: u32, study: &mut [i64]) -> u8 {
+    unsafe { c::ltd_open(first, last, study.as_mut_ptr(), study.len()) }
+}
+
+/// A claim's record added to `study` (43 numbers).
+pub fn add(study: &mut [i64], claim: &[u8], rates: &[u32]) -> u8 {
+    unsafe { c::ltd_add(study.as_mut_ptr(), study.len(), claim.as_ptr(), claim.len(), rates.as_ptr(), rates.len()) }
+}
+
+/// The dates of block 0's window into `dates` (2 numbers).
+pub fn read_window(block: &[u8], dates: &mut [u32]) -> u8 {
+    unsafe { c::ltd_read_window(block.as_ptr(), block.len(), dates.as_mut_ptr(), dates.len()) }
+}
 
 /// The month records, six numbers each into `list`: how many, or 2^32 + the number refused.
 pub fn listing(first: u32, last: u32, claim: &Claim, list: &mut [i32]) -> u64 {

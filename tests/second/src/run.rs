@@ -51,26 +51,11 @@ fn take_blocks<B: AsRef<[u8]>>(blocks: impl Iterator<Item = B>, rates: &RateTabl
 }
 
 impl FileRun {
-    /// Number, block, place, window, claims taken, then eight sums for each group.
+    /// Number, block, place, then the study's numbers.
     pub fn numbers(&self) -> [i64; 46] {
-        let study = &self.study;
         let mut numbers = [0; 46];
-        numbers[..6].copy_from_slice(&[
-            self.refused as i64,
-            self.block as i64,
-            self.place as i64,
-            study.window.first.0 as i64,
-            study.window.last.0 as i64,
-            study.claims_taken as i64,
-        ]);
-        for (row, group) in numbers[6..].chunks_exact_mut(8).zip(&study.groups) {
-            row[0] = group.thirtieths;
-            for (number, &count) in row[1..6].iter_mut().zip(&group.closings) {
-                *number = count as i64;
-            }
-            row[6] = group.expected_recoveries;
-            row[7] = group.expected_deaths;
-        }
+        numbers[..3].copy_from_slice(&[self.refused as i64, self.block as i64, self.place as i64]);
+        numbers[3..].copy_from_slice(&self.study.numbers());
         numbers
     }
 }

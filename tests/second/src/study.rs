@@ -16,8 +16,11 @@ pub const MOST_CELLS: usize = 64;
 pub const MILLION: u32 = 1_000_000;
 
 pub const MOST_CLAIMS: u32 = 500_000;
-const MOST_THIRTIETHS: i64 = 27_000_000_000;
-const MOST_EXPECTED: i64 = 27_000_000_000_000_000;
+pub const MOST_THIRTIETHS: i64 = 27_000_000_000;
+pub const MOST_EXPECTED: i64 = 27_000_000_000_000_000;
+
+/// The numbers of a study as a list.
+pub const STUDY_LENGTH: usize = 43;
 
 /// The duration group, 1 to 5.
 pub fn duration_group(duration: Duration) -> usize {
@@ -137,6 +140,39 @@ impl Study {
 
     fn over(window: Window) -> Study {
         Study { window, claims_taken: 0, groups: [GroupSums::default(); 5] }
+    }
+
+    /// First and last day of the window, claims taken, then eight sums for each group.
+    pub fn numbers(&self) -> [i64; STUDY_LENGTH] {
+        let mut numbers = [0; STUDY_LENGTH];
+        numbers[..3].copy_from_slice(&[self.window.first.0 as i64, self.window.last.0 as i64, self.claims_taken as i64]);
+        for (row, group) in numbers[3..].chunks_exact_mut(8).zip(&self.groups) {
+            row[0] = group.thirtieths;
+            for (number, &count) in row[1..6].iter_mut().zip(&group.closings) {
+                *number = count as i64;
+            }
+            row[6] = group.expected_recoveries;
+            row[7] = group.expected_deaths;
+        }
+        numbers
+    }
+
+    /// The study of any numbers; none if a day, the claims taken or a closing count is not 0 to 2^32 − 1.
+    pub fn of_numbers(numbers: &[i64; STUDY_LENGTH]) -> Option<Study> {
+        let unsigned = |number: i64| u32::try_from(number).ok();
+        // A day number that `Day` cannot hold is as little a date as the highest one it can.
+        let day = |number: i64| unsigned(number).map(|number| Day(number.min(i32::MAX as u32) as i32));
+        let window = Window { first: day(numbers[0])?, last: day(numbers[1])? };
+        let mut study = Study { claims_taken: unsigned(numbers[2])?, ..Study::over(window) };
+        for (group, row) in study.groups.iter_mut().zip(numbers[3..].chunks_exact(8)) {
+            group.thirtieths = row[0];
+            for (count, &number) in group.closings.iter_mut().zip(&row[1..6]) {
+                *count = unsigned(number)?;
+            }
+            group.expected_recoveries = row[6];
+            group.expected_deaths = row[7];
+        }
+        Some(study)
     }
 
     /// Check 1.

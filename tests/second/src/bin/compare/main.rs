@@ -9,6 +9,7 @@ mod file_runs;
 mod inputs;
 mod listing;
 mod one_input;
+mod open_and_add;
 mod short_lists;
 mod valuation;
 mod windows;
@@ -33,8 +34,16 @@ const fn test(name: &'static str, seed: u64, run: fn(&mut Rng) -> Outcome) -> Te
 }
 
 /// The tests of each subject, in the order they are run.
-const SUBJECTS: &[&[Test]] =
-    &[figures::TESTS, listing::TESTS, file_runs::TESTS, windows::TESTS, valuation::TESTS, blocks::TESTS, short_lists::TESTS];
+const SUBJECTS: &[&[Test]] = &[
+    figures::TESTS,
+    listing::TESTS,
+    file_runs::TESTS,
+    windows::TESTS,
+    valuation::TESTS,
+    blocks::TESTS,
+    short_lists::TESTS,
+    open_and_add::TESTS,
+];
 
 fn main() {
     let (mut passed, mut failed, mut inputs) = (0, 0, 0);

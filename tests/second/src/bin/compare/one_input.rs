@@ -1,18 +1,20 @@
 //! Comparing both implementations on one input. Lists lent for writing hold a pattern before the call and are longer than asked for, so
 //! that a number written past its place shows.
 
-use second::block::{read_block, write_block, write_window, Block};
+use second::block::{read_block, read_claim, write_block, write_window, Block};
 use second::calendar::Date;
 use second::claim::Claim;
 use second::ffi;
 use second::months::listing;
 use second::run::run_file;
-use second::study::RateTable;
+use second::study::{RateTable, Study, STUDY_LENGTH};
 use second::valuation::{factor, reserve_factor, valuation_rate, Factor};
 use second::Refusal;
 use std::fmt::{Debug, Write as _};
 
 pub const REFUSED: u64 = 1 << 32;
+/// A lent list has not the length or form asked for.
+pub const WRONG_FORM: u8 = 255;
 
 pub fn answer<T>(result: &Result<T, Refusal>) -> u8 {
     result.as_ref().err().map_or(0, |refusal| refusal.number())
@@ -63,6 +65,65 @@ pub fn compare_study(file: &[u8], rates: &[u32]) -> Result<[i64; 46], String> {
     two[..46].copy_from_slice(&run.numbers());
     same((answer_1, &one), (run.refused, &two), || format!("file\n{}rates {}", hex(file), list(rates)))?;
     Ok(one[..46].try_into().unwrap())
+}
+
+/// Opens with both into a list of `length` numbers; the answer and the first one's list.
+pub fn compare_open(first: Date, last: Date, length: usize) -> Result<(u8, Vec<i64>), String> {
+    let blank: Vec<i64> = (0..length).map(|i| pattern(i) as i64).collect();
+    let (mut one, mut two) = (blank.clone(), blank);
+    let answer_1 = ffi::open(first.to_number(), last.to_number(), &mut one);
+    let answer_2 = match two.first_chunk_mut::<STUDY_LENGTH>() {
+        None => WRONG_FORM,
+        Some(numbers) => {
+            let opened = Study::open(first, last);
+            *numbers = opened.unwrap_or(Study::unopened()).numbers();
+            answer(&opened)
+        }
+    };
+    same((answer_1, &one), (answer_2, &two), || format!("opening {first} to {last} in a list of {length}"))?;
+    Ok((answer_1, one))
+}
+
+/// Adds with both to a study of any numbers, which may be longer or shorter than asked for and has the first one's numbers afterwards.
+pub fn compare_add(study: &mut [i64], record: &[u8], rates: &[u32]) -> Result<u8, String> {
+    let before = study.to_vec();
+    let mut two = before.clone();
+    let answer_1 = ffi::add(study, record, rates);
+    let answer_2 = second_add(&mut two, record, rates);
+    same((answer_1, &*study), (answer_2, &two), || {
+        let claim = read_claim(record).map_or("no claim".into(), |claim| claim.to_string());
+        format!("study {before:?}\n{claim}, record {}rates {}", hex(record), list(rates))
+    })?;
+    // Also where both would err alike.
+    same(answer_1 != 0 && *study != before, false, || format!("refused {answer_1}, study {before:?} written"))?;
+    Ok(answer_1)
+}
+
+fn second_add(study: &mut [i64], record: &[u8], rates: &[u32]) -> u8 {
+    let Some(numbers) = study.first_chunk_mut::<STUDY_LENGTH>() else { return WRONG_FORM };
+    let (Some(mut sum), Some(claim)) = (Study::of_numbers(numbers), read_claim(record)) else { return WRONG_FORM };
+    let added = sum.add(&claim, &RateTable::new(rates));
+    if added.is_ok() {
+        *numbers = sum.numbers();
+    }
+    answer(&added)
+}
+
+/// Reads block 0 with both into a list of `length` numbers.
+pub fn compare_read_window(block: &[u8], length: usize) -> Result<u8, String> {
+    let blank: Vec<u32> = (0..length).map(|i| pattern(i) as u32).collect();
+    let (mut one, mut two) = (blank.clone(), blank);
+    let answer_1 = ffi::read_window(block, &mut one);
+    let answer_2 = match (two.first_chunk_mut::<2>(), read_block(block, 0)) {
+        (None, _) => WRONG_FORM,
+        (Some(dates), Ok(Block::Window(first, last))) => {
+            *dates = [first.to_number(), last.to_number()];
+            0
+        }
+        _ => Refusal::Block.number(),
+    };
+    same((answer_1, &one), (answer_2, &two), || format!("the window of a block into {length} numbers\n{}", hex(block)))?;
+    Ok(answer_1)
 }
 
 pub fn compare_factor(group: u8, terminations: u32, expected: i64) -> Result<(), String> {

@@ -1,0 +1,77 @@
+-- `closing_counts` meets its contract. Invariant: the first k counts are those of the list. Assumes nothing.
+use Prim.Native.Nat.{ℕ, zero, suc, _+_, _-_, _*_, _/_, _%_, _≤_, _<_}
+use mathlib.Core.Path.{_≡_, refl, sym, ap, _∙_}
+use mathlib.Core.Bool.{true, _&&_}
+use mathlib.Core.List.{List}
+use native.Mathlib.Omega.{arith}
+use borrow.Author.Needs.{needs}
+use lib.IntN.{ℤ, pos, natAbs}
+use lib.Dec.{eqb}
+use lib.ListN.{length, getD, set, length-set}
+use mir.Syntax.{w64}
+use mir.Val.{toZ, ofZ}
+use mir.Facts.{toZ-ofZ}
+use Rattle.basics.specs.Tables.{table}
+use Rattle.basics.proofs.Tests.{tests, by, and-left, and-right}
+use Rattle.basics.proofs.Tables.{list-table, filled-more}
+use Rattle.c_abi.specs.StudyCalls.{isWord, closingAt, countsAreWords}
+use Rattle.c_abi.proofs.study_calls.closing_counts.Statement.{statement}
+use Rattle.c_abi.proofs.study_calls.closing_counts.Tie as tie
+
+abbrev Inv-loop : tie.InvT-loop
+Inv-loop list counts₀ k₀ counts k =
+    (k ≤ 25) × (length counts ≡ 25) × ((i : ℕ) → i < k → getD counts i 0 ≡ natAbs (getD list (closingAt i) (pos 0)))
+
+abbrev μ-loop : tie.MeasureT-loop
+μ-loop list counts₀ k₀ counts k = 25 - k
+
+loop-holds : tie.Need-loop-holds Inv-loop μ-loop
+loop-holds c = (omega arith, refl, λ i h. absurd (omega arith))
+
+place : (k n : ℕ) → n ≡ closingAt k → k < 25 → n < 43
+unfolding closingAt
+place k n e h = omega arith
+
+-- each of the first n counts is a number of 32 bits
+words-at : (xs : List ℤ) (n k : ℕ) → countsAreWords xs n ≡ true → k < n → isWord (getD xs (closingAt k) (pos 0)) ≡ true
+unfolding countsAreWords
+words-at xs zero k e h = absurd (omega tests)
+words-at xs (suc n) k e h =
+    by (eqb k n) (λ _. isWord (getD xs (closingAt k) (pos 0)) ≡ true)
+    (λ q. let s : k ≡ n = omega tests in rw s (and-right (countsAreWords xs n) (isWord (getD xs (closingAt n) (pos 0))) e))
+    (λ q. words-at xs n k (and-left (countsAreWords xs n) (isWord (getD xs (closingAt n) (pos 0))) e) (omega tests))
+
+mul-count : tie.Need-mul-count Inv-loop μ-loop
+mul-count c = omega (arith, place _ _ (c .closing-at .ensures) (omega arith))
+
+shared-slice-copy-out-count : tie.Need-shared-slice-copy-out-count Inv-loop μ-loop
+shared-slice-copy-out-count c = omega (arith, place _ _ (c .closing-at .ensures) (omega arith))
+
+word-requires : tie.Need-word-requires Inv-loop μ-loop
+word-requires c κs =
+    let s = c .before .before .before .before in
+    rw (toZ-ofZ {w = w64} (record { sfits = c .count .given }), c .before .closing-at .ensures) (words-at (s .args .list .now) 25 (c .before .before .before .loop .k) (s .pre .1) (omega arith))
+
+loop-again : tie.Need-loop-again Inv-loop μ-loop
+loop-again c =
+    let k = c .before in
+    let l = k .before .before .before .loop in
+    let list = k .before .before .before .before .args .list .now in
+    let n = k .before .closing-at .result in
+    let read : toZ w64 (ofZ w64 (getD list n (pos 0))) ≡ getD list n (pos 0) = toZ-ofZ {w = w64} (record { sfits = k .count .given }) in (
+      omega arith,
+      length-set (l .counts) (l .k) _ ∙ l .inv .1,
+      filled-more _ 0 (l .counts) (l .k) _ (omega arith) (l .inv .2)
+          (c .word .ensures ∙ ap natAbs read ∙ ap (λ (n : ℕ). natAbs (getD list n (pos 0))) (k .before .closing-at .ensures)),
+    )
+
+returns : tie.Need-returns Inv-loop μ-loop
+returns c =
+    let l = c .before in
+    list-table 25 _ 0 (l .loop .counts) (l .loop .inv .1) (λ k h. l .loop .inv .2 k (omega arith))
+
+pub closing-counts-spec : {M : Type 1} → statement M
+closing-counts-spec =
+    tie.close
+    (tie.spec Inv-loop μ-loop loop-holds (λ c κs. omega arith) mul-count shared-slice-copy-out-count word-requires (λ c. omega arith)
+    (λ c. omega arith) (λ c. omega arith) (λ c. omega arith) loop-again returns)

@@ -1,0 +1,27 @@
+-- `ltd_open` meets its contract: a short list is answered 255, and a list that is long enough gets the study opened. Assumes nothing.
+use Prim.Native.Nat.{ℕ}
+use mathlib.Core.Path.{_≡_, ap, ap₂, _∙_}
+use borrow.Author.Needs.{needs}
+use lib.Seq.{sets}
+use Rattle.study.specs.declared.Answer.{Answer}
+use Rattle.study.specs.Study.{opened}
+use Rattle.c_abi.specs.Abi.{studyNumbers}
+use Rattle.c_abi.proofs.Lent.{short, long}
+use Rattle.c_abi.proofs.study_calls.ltd_open.Statement.{statement}
+use Rattle.c_abi.proofs.study_calls.ltd_open.Tie as tie
+
+returns : tie.Need-returns
+returns c = short 43 _ _ _ (c .if1 .taken)
+
+returns-2 : tie.Need-returns-2
+returns-2 c =
+    let o = c .before .before .before .before in
+    let e1 = o .before .before .before in
+    let old = e1 .before .args .study .now in
+    let e = o .open .ensures ∙ ap₂ opened (o .before .before .date-in .ensures) (o .before .date-in2 .ensures) in
+    long 43 old _ _ _ _ (e1 .if1 .left) (ap (λ (a : Answer). a .refused) e) (c .before .put-study .ensures ∙ ap (λ (a : Answer). sets old 0 (studyNumbers (a .study))) e)
+
+pub ltd-open-spec : {M : Type 1} → statement M
+ltd-open-spec =
+    tie.close
+    (tie.spec returns (λ c κs. search needs) (λ c κs. search needs) (λ c κs. search needs) (λ c κs. search needs) (λ c. search needs) returns-2)

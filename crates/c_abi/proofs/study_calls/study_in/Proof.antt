@@ -1,0 +1,80 @@
+-- `study_in` meets its contract: its form says what each reading asks. Assumes nothing.
+use mathlib.Core.Path.{_≡_, sym, ap, _∙_}
+use native.Mathlib.Omega.{arith}
+use borrow.Author.Needs.{needs}
+use lib.IntN.{ℤ, pos, natAbs}
+use lib.ListN.{getD}
+use mir.Syntax.{w64}
+use mir.Val.{toZ, ofZ}
+use mir.Facts.{toZ-ofZ}
+use Rattle.c_abi.specs.StudyCalls.{isWord, studyIn}
+use Rattle.c_abi.proofs.StudyForms.{Form, form}
+use Rattle.c_abi.proofs.study_calls.study_in.Statement.{statement}
+use Rattle.c_abi.proofs.study_calls.study_in.Tie as tie
+
+formed : (c : tie.Start) → Form (c .args .list .now)
+formed c = form (c .args .list .now) (c .pre)
+
+shared-slice-copy-out-first : tie.Need-shared-slice-copy-out-first
+shared-slice-copy-out-first c = omega (arith, formed c .room)
+
+shared-slice-copy-out-last : tie.Need-shared-slice-copy-out-last
+shared-slice-copy-out-last c = omega (arith, formed (c .before) .room)
+
+shared-slice-copy-out-taken : tie.Need-shared-slice-copy-out-taken
+shared-slice-copy-out-taken c = omega (arith, formed (c .before .before) .room)
+
+group-numbers-requires : tie.Need-group-numbers-requires
+group-numbers-requires c κs = omega (arith, formed (c .before .before .before) .room)
+
+closing-counts-requires : tie.Need-closing-counts-requires
+closing-counts-requires c κs = let f = formed (c .before .before .before .before) in (f .room, f .counts)
+
+group-numbers-requires-2 : tie.Need-group-numbers-requires-2
+group-numbers-requires-2 c κs = omega (arith, formed (c .before .before .before .before .before) .room)
+
+group-numbers-requires-3 : tie.Need-group-numbers-requires-3
+group-numbers-requires-3 c κs = omega (arith, formed (c .before .before .before .before .before .before) .room)
+
+word-requires : tie.Need-word-requires
+word-requires c κs = let a = c .before .before .before .before .before .before in rw (toZ-ofZ {w = w64} (record { sfits = a .first .given })) (formed (a .before) .first)
+
+word-requires-2 : tie.Need-word-requires-2
+word-requires-2 c κs = let a = c .before .before .before .before .before .before in rw (toZ-ofZ {w = w64} (record { sfits = a .last .given })) (formed (a .before .before) .last)
+
+word-requires-3 : tie.Need-word-requires-3
+word-requires-3 c κs = let a = c .before .before .before .before .before .before in rw (toZ-ofZ {w = w64} (record { sfits = a .taken .given })) (formed (a .before .before .before) .taken)
+
+returns : tie.Need-returns
+unfolding studyIn
+returns c =
+    let gn = c .before .before .before .before .before .before in
+    let t = gn .before in
+    let l = t .before in
+    let f = l .before in
+    let list = f .before .args .list .now in
+    let first : toZ w64 (ofZ w64 (getD list 0 (pos 0))) ≡ getD list 0 (pos 0) = toZ-ofZ {w = w64} (record { sfits = f .first .given }) in
+    let last : toZ w64 (ofZ w64 (getD list 1 (pos 0))) ≡ getD list 1 (pos 0) = toZ-ofZ {w = w64} (record { sfits = l .last .given }) in
+    let taken : toZ w64 (ofZ w64 (getD list 2 (pos 0))) ≡ getD list 2 (pos 0) = toZ-ofZ {w = w64} (record { sfits = t .taken .given }) in
+    λ i.
+    record {
+      window =
+          record {
+            first = record { 0 = (c .before .before .word .ensures ∙ ap natAbs first) i };
+            last = record { 0 = (c .before .word2 .ensures ∙ ap natAbs last) i };
+          };
+      taken = (c .word3 .ensures ∙ ap natAbs taken) i;
+      sums =
+          record {
+            thirtieths = gn .group-numbers .ensures i;
+            closings = c .before .before .before .before .before .closing-counts .ensures i;
+            recoveries = c .before .before .before .before .group-numbers2 .ensures i;
+            deaths = c .before .before .before .group-numbers3 .ensures i;
+          };
+    }
+
+pub study-in-spec : {M : Type 1} → statement M
+study-in-spec =
+    tie.close
+    (tie.spec shared-slice-copy-out-first shared-slice-copy-out-last shared-slice-copy-out-taken group-numbers-requires closing-counts-requires
+    group-numbers-requires-2 group-numbers-requires-3 word-requires word-requires-2 word-requires-3 returns)

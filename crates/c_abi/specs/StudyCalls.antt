@@ -1,0 +1,75 @@
+-- The calls on a study that is a lent list of numbers: ltd_open and ltd_add; and ltd_read_window.
+use Prim.Native.Nat.{ℕ, zero, suc, _+_, _*_, _/_, _%_}
+use mathlib.Core.Bool.{Bool, true, false, _&&_}
+use mathlib.Core.List.{List, [], _∷_}
+use lib.ListN.{length, getD}
+use lib.Seq.{sets}
+use lib.Dec.{leb, eqb}
+use lib.IntN.{ℤ, pos, negsuc, natAbs}
+use Rattle.basics.specs.Pick.{pick}
+use Rattle.basics.specs.Tables.{table}
+use Rattle.claim_months.specs.declared.Claim.{Claim}
+use Rattle.study.specs.declared.Study.{Study}
+use Rattle.study.specs.declared.Answer.{Answer}
+use Rattle.study.specs.Study.{opened, added}
+use Rattle.claim_file.specs.declared.MaybeClaim.{MaybeClaim}
+use Rattle.claim_file.specs.declared.MaybeClaim.the-variants.{Found, NoRecord}
+use Rattle.claim_file.specs.declared.MaybeDates.{MaybeDates}
+use Rattle.claim_file.specs.declared.MaybeDates.the-variants.{Known, Refused}
+use Rattle.claim_file.specs.Answers.{recordIn, windowOf}
+use Rattle.c_abi.specs.Abi.{dateIn, dateNumber, studyNumbers, answered, stored}
+
+-- a number of 32 bits: 0 to 2³² − 1
+unfoldable pub isWord : ℤ → Bool
+isWord (pos n) = leb n 4294967295
+isWord (negsuc n) = false
+
+-- where the closing count at a place of the study's 25 stands in its list, and that the first n of them are numbers of 32 bits
+unfoldable pub closingAt : ℕ → ℕ
+closingAt k = 4 + 8 * (k / 5) + k % 5
+
+unfoldable pub countsAreWords : List ℤ → ℕ → Bool
+countsAreWords xs zero = true
+countsAreWords xs (suc n) = countsAreWords xs n && isWord (getD xs (closingAt n) (pos 0))
+
+-- a list that has the form of a study: 43 numbers or more, days, claims taken and closing counts of 32 bits
+unfoldable pub studyForm : List ℤ → Bool
+studyForm xs =
+    leb 43 (length xs) && isWord (getD xs 0 (pos 0)) && isWord (getD xs 1 (pos 0)) && isWord (getD xs 2 (pos 0)) && countsAreWords xs 25
+
+-- the study that such a list holds
+unfoldable pub studyIn : List ℤ → Study
+studyIn xs =
+    record {
+      window = record { first = record { 0 = natAbs (getD xs 0 (pos 0)) }; last = record { 0 = natAbs (getD xs 1 (pos 0)) } };
+      taken = natAbs (getD xs 2 (pos 0));
+      sums =
+          record {
+            thirtieths = table 5 (λ k. getD xs (3 + 8 * k) (pos 0));
+            closings = table 25 (λ k. natAbs (getD xs (closingAt k) (pos 0)));
+            recoveries = table 5 (λ k. getD xs (9 + 8 * k) (pos 0));
+            deaths = table 5 (λ k. getD xs (10 + 8 * k) (pos 0));
+          };
+    }
+
+-- adding the claim of a record: 255 where the list has no record
+unfoldable pub addedTo : Study → MaybeClaim → List ℕ → Answer
+addedTo s (Found c) rates = added s c rates
+addedTo s NoRecord rates = record { refused = 255; study = s }
+
+-- ltd_add: 255 for a study or a record that has not its form; the list afterwards, untouched by any refusal
+unfoldable pub addAnswer : List ℤ → List ℕ → List ℕ → ℕ
+addAnswer xs claim rates = pick (studyForm xs) (addedTo (studyIn xs) (recordIn claim 0) rates .refused) 255
+
+unfoldable pub addAfter : List ℤ → List ℕ → List ℕ → List ℤ
+addAfter xs claim rates =
+    pick (eqb (addAnswer xs claim rates) 0) (sets xs 0 (studyNumbers (addedTo (studyIn xs) (recordIn claim 0) rates .study))) xs
+
+-- ltd_read_window: the two dates as numbers, or the list as it was
+unfoldable pub windowNumber : MaybeDates → ℕ
+windowNumber (Known w) = 0
+windowNumber (Refused n) = n
+
+unfoldable pub datesStored : List ℕ → MaybeDates → List ℕ
+datesStored old (Known w) = sets old 0 (dateNumber (w .first) ∷ dateNumber (w .last) ∷ [])
+datesStored old (Refused n) = old

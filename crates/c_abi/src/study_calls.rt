@@ -1,0 +1,176 @@
+// The calls that open a study and add a claim to it. A study is a lent list of 43 numbers, a claim the record of a claim file.
+ghost use mathlib.Core.Path.{_≡_};
+ghost use mathlib.Core.Bool.{true};
+ghost use Prim.Native.Nat.{_+_, _*_, _≤_};
+ghost use denote.Ref.{now};
+ghost use lib.IntN.{pos, natAbs};
+ghost use lib.ListN.{length, getD};
+ghost use lib.Seq.{sets};
+ghost use Rattle.basics.specs.Tables.{table};
+ghost use Rattle.study.specs.Study.{opened};
+ghost use Rattle.c_abi.specs.Abi.{dateIn, studyNumbers, answered, stored};
+ghost use Rattle.c_abi.specs.StudyCalls.{isWord, closingAt, countsAreWords, studyForm, studyIn, addAnswer, addAfter};
+use crate::listing::date_in;
+use crate::study_list::put_study;
+use calendar::Day;
+use claim_file::MaybeClaim;
+use claim_months::Window;
+use study::Study;
+use study::Sums;
+
+// Whether a number is one of 32 bits.
+fn is_word(x: i64) -> bool
+    ensures { λ r. ⌜ r ≡ isWord x ⌝ }
+{
+    if x < 0 {
+        return false;
+    }
+    x <= 4294967295
+}
+
+// A number of 32 bits as such.
+fn word(x: i64) -> u32
+    requires { ⌜ isWord x ≡ true ⌝ }
+    ensures { λ r. ⌜ r ≡ natAbs x ⌝ }
+{
+    x as u32
+}
+
+// Where the closing count at a place of the 25 stands in a study's list.
+fn closing_at(place: usize) -> usize
+    requires { ⌜ place ≤ 24 ⌝ }
+    ensures { λ r. ⌜ r ≡ closingAt place ⌝ }
+{
+    4 + 8 * (place / 5) + place % 5
+}
+
+// Whether every closing count is a number of 32 bits.
+fn counts_are_words(list: &[i64]) -> bool
+    requires { ⌜ 43 ≤ length (now list) ⌝ }
+    ensures { λ r. ⌜ r ≡ countsAreWords (now (list .entry)) 25 ⌝ }
+{
+    let mut left = 25;
+    while left > 0 {
+        left -= 1;
+        let at = closing_at(left);
+        let count = list[at];
+        if !is_word(count) {
+            return false;
+        }
+    }
+    true
+}
+
+// Whether a list has the form of a study.
+fn is_study(list: &[i64]) -> bool
+    ensures { λ r. ⌜ r ≡ studyForm (now (list .entry)) ⌝ }
+{
+    if list.len() < 43 {
+        return false;
+    }
+    let first = list[0];
+    if !is_word(first) {
+        return false;
+    }
+    let last = list[1];
+    if !is_word(last) {
+        return false;
+    }
+    let taken = list[2];
+    if !is_word(taken) {
+        return false;
+    }
+    counts_are_words(list)
+}
+
+// One number of each group, from that of group 1 on.
+fn group_numbers(list: &[i64], from: usize) -> [i64; 5]
+    requires { ⌜ from + 33 ≤ length (now list) ⌝ }
+    ensures { λ r. ⌜ r ≡ table 5 (λ k. getD (now (list .entry)) (from + 8 * k) (pos 0)) ⌝ }
+{
+    let mut numbers = [0; 5];
+    let mut k = 0;
+    while k < 5 {
+        let number = list[from + 8 * k];
+        numbers[k] = number;
+        k += 1;
+    }
+    numbers
+}
+
+// The closing counts of a study's list.
+fn closing_counts(list: &[i64]) -> [u32; 25]
+    requires { ⌜ 43 ≤ length (now list) ⌝ }
+    requires { ⌜ countsAreWords (now list) 25 ≡ true ⌝ }
+    ensures { λ r. ⌜ r ≡ table 25 (λ k. natAbs (getD (now (list .entry)) (closingAt k) (pos 0))) ⌝ }
+{
+    let mut counts = [0; 25];
+    let mut k = 0;
+    while k < 25 {
+        let at = closing_at(k);
+        let count = list[at];
+        counts[k] = word(count);
+        k += 1;
+    }
+    counts
+}
+
+// The study that a list holds.
+fn study_in(list: &[i64]) -> Study
+    requires { ⌜ studyForm (now list) ≡ true ⌝ }
+    ensures { λ r. ⌜ r ≡ studyIn (now (list .entry)) ⌝ }
+{
+    let first = list[0];
+    let last = list[1];
+    let taken = list[2];
+    let sums = Sums {
+        thirtieths: group_numbers(list, 3),
+        closings: closing_counts(list),
+        recoveries: group_numbers(list, 9),
+        deaths: group_numbers(list, 10),
+    };
+    Study {
+        window: Window {
+            first: Day(word(first)),
+            last: Day(word(last)),
+        },
+        taken: word(taken),
+        sums,
+    }
+}
+
+// Opens a study.
+#[no_mangle]
+pub extern "C" fn ltd_open(first: u32, last: u32, study: &mut [i64]) -> u8
+    ensures { λ r. ⌜ r ≡ answered 43 (now (study .entry)) (opened (dateIn first) (dateIn last) .refused) ⌝ }
+    ensures { λ _. ⌜ now (study .exit) ≡ stored 43 (now (study .entry)) (sets (now (study .entry)) 0 (studyNumbers (opened (dateIn first) (dateIn last) .study))) ⌝ }
+{
+    if study.len() < 43 {
+        return 255;
+    }
+    let answer = Study::open(date_in(first), date_in(last));
+    let found = answer.study;
+    put_study(found, 0, study);
+    answer.refused
+}
+
+// Adds a claim to a study.
+#[no_mangle]
+pub extern "C" fn ltd_add(study: &mut [i64], claim: &[u8], rates: &[u32]) -> u8
+    ensures { λ r. ⌜ r ≡ addAnswer (now (study .entry)) (now (claim .entry)) (now (rates .entry)) ⌝ }
+    ensures { λ _. ⌜ now (study .exit) ≡ addAfter (now (study .entry)) (now (claim .entry)) (now (rates .entry)) ⌝ }
+{
+    if !is_study(study) {
+        return 255;
+    }
+    let MaybeClaim::Found(read) = claim_file::record::read_record(claim, 0) else {
+        return 255;
+    };
+    let answer = study_in(study).add(read, rates);
+    if answer.refused != 0 {
+        return answer.refused;
+    }
+    let after = answer.study;
+    put_study(after, 0, study);
+    0
+}
