@@ -1,7 +1,11 @@
 // Reading: `rates.bin` into the rate table, and standard input block by block into the file run.
-ghost use Prim.Native.Nat.{_+_, _*_, _/_, _≤_, _<_};
+ghost use mathlib.Core.Path.{_≡_};
+ghost use Prim.Native.Nat.{_+_, _≤_, _<_};
 ghost use denote.Ref.{now};
 ghost use lib.ListN.{length};
+ghost use lib.Seq.{sets};
+ghost use Rattle.claim_file.specs.Bytes.{fourAt};
+ghost use Rattle.ltd_study.specs.Input.{blockRates};
 use claim_file::FileRun;
 use libc::STDIN_FILENO;
 
@@ -50,6 +54,7 @@ fn fill_block(fd: i32, block: &mut [u8; 512]) -> Filled
 }
 
 fn wide(byte: u8) -> u32
+    ensures { λ r. ⌜ r ≡ byte ⌝ }
     ensures { λ r. ⌜ r < 256 ⌝ }
 {
     byte as u32
@@ -58,6 +63,7 @@ fn wide(byte: u8) -> u32
 // The number of four bytes, low byte first.
 fn rate_at(block: &[u8; 512], at: usize) -> u32
     requires { ⌜ at + 4 ≤ 512 ⌝ }
+    ensures { λ r. ⌜ r ≡ fourAt (now (block .entry)) at ⌝ }
 {
     wide(block[at])
         + wide(block[at + 1]) * 256
@@ -69,6 +75,7 @@ fn rate_at(block: &[u8; 512], at: usize) -> u32
 fn put_rates(block: &[u8; 512], rates: usize, table: &mut [u32; 15328], from: usize)
     requires { ⌜ rates ≤ 128 ⌝ }
     requires { ⌜ from + rates ≤ 15328 ⌝ }
+    ensures { λ _. ⌜ now (table .exit) ≡ sets (now (table .entry)) from (blockRates (now (block .entry)) rates) ⌝ }
 {
     let mut i = 0;
     while i < rates {

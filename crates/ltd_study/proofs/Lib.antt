@@ -1,0 +1,2 @@
+-- `Rates`: the rates of a block, one after another.
+pub mod Rates

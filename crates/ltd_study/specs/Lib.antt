@@ -1,0 +1,2 @@
+-- `Input`: the rates of a block of `rates.bin`.
+pub mod Input

@@ -1,0 +1,5 @@
+-- `Numbers`: a number's digits. `Texts`: texts put one behind another. `Lines`: how long the columns are, and a line put into a lent list. `RunLines`: the lines of a run.
+pub mod Numbers
+pub mod Texts
+pub mod Lines
+pub mod RunLines
