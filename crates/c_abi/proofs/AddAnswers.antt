@@ -13,7 +13,7 @@ use Rattle.study.specs.declared.Answer.{Answer}
 use Rattle.study.specs.Study.{added}
 use Rattle.claim_file.specs.declared.MaybeClaim.{MaybeClaim}
 use Rattle.claim_file.specs.declared.MaybeClaim.the-variants.{Found, NoRecord}
-use Rattle.claim_file.specs.Answers.{recordIn}
+use Rattle.claim_file.specs.BlockAnswers.{recordIn}
 use Rattle.basics.proofs.Tests.{tests}
 use Rattle.c_abi.specs.Abi.{studyNumbers}
 use Rattle.c_abi.specs.StudyCalls.{studyForm, studyIn, addedTo, addAnswer, addAfter}

@@ -27,7 +27,7 @@ use Rattle.claim_file.specs.declared.Block.{Block}
 use Rattle.claim_file.specs.declared.BlockRead.{BlockRead}
 use Rattle.claim_file.specs.declared.MaybeDates.{MaybeDates}
 use Rattle.claim_file.specs.declared.MaybeDates.the-variants as windowed
-use Rattle.claim_file.specs.Answers.{noClaim, writeCheck, bytesAfter}
+use Rattle.claim_file.specs.BlockAnswers.{noClaim, writeCheck, bytesAfter}
 
 -- a refusal where the answer is a number: 2^32 + the number refused
 abbrev pub refusedNumber : ℕ → ℕ

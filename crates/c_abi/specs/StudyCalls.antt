@@ -16,7 +16,7 @@ use Rattle.claim_file.specs.declared.MaybeClaim.{MaybeClaim}
 use Rattle.claim_file.specs.declared.MaybeClaim.the-variants.{Found, NoRecord}
 use Rattle.claim_file.specs.declared.MaybeDates.{MaybeDates}
 use Rattle.claim_file.specs.declared.MaybeDates.the-variants.{Known, Refused}
-use Rattle.claim_file.specs.Answers.{recordIn, windowOf}
+use Rattle.claim_file.specs.BlockAnswers.{recordIn, windowOf}
 use Rattle.c_abi.specs.Abi.{dateIn, dateNumber, studyNumbers, answered, stored}
 
 -- a number of 32 bits: 0 to 2³² − 1

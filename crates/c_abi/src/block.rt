@@ -7,7 +7,7 @@ ghost use lib.Dec.{eqb};
 ghost use lib.ListN.{length};
 ghost use lib.Seq.{sets};
 ghost use Rattle.basics.specs.Pick.{pick};
-ghost use Rattle.claim_file.specs.Answers.{noClaim, blockCheck, windowOf, readOf, windowAfter};
+ghost use Rattle.claim_file.specs.BlockAnswers.{noClaim, blockCheck, windowOf, readOf, windowAfter};
 ghost use Rattle.c_abi.specs.StudyCalls.{windowNumber, datesStored};
 ghost use Rattle.c_abi.specs.Abi.{dateIn, dateNumber, claimDates, claimNumbers, claimsNumbers, windowStored, readStored, claimAt, bytesAt, allBytes, placed, writeAnswer, writeAfter, answered, stored};
 use crate::listing::claim_in;

@@ -1,3 +1,3 @@
 -- What the calendar layer means, from document 01's section Calendar.
 pub mod Calendar
-pub mod Answers
+pub mod DayAnswers

@@ -2,7 +2,7 @@
 ghost use mathlib.Core.Path.{_≡_};
 ghost use Prim.Native.Nat.{_+_, _≤_};
 ghost use Rattle.calendar.specs.Calendar.{leapYear, monthLength, isDate, daysBefore, monthOf, lastDayNumber, firstMonth};
-ghost use Rattle.calendar.specs.Answers.{dayOf, dateAt, monthAt, firstDay, lastDay};
+ghost use Rattle.calendar.specs.DayAnswers.{dayOf, dateAt, monthAt, firstDay, lastDay};
 
 // A calendar date, in the widths of the claim file. Any bit pattern is a value; `is_date` tells which are dates.
 pub struct Date {

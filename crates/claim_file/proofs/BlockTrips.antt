@@ -19,7 +19,7 @@ use Rattle.claim_months.specs.declared.Claim.{Claim}
 use Rattle.claim_file.specs.Bytes.{byteAt, twoAt, fourAt, dateFrom, zeroFrom, two, dateBytes, zeros}
 use Rattle.claim_file.specs.Record.{recordPadded, claimFrom, claimBytes, allClaimBytes}
 use Rattle.claim_file.specs.Block.{blockClaim, claimCount, checkOf, claimsPadded, framed, windowBlock, claimBlock, blockSound, sealed, windowBytes, blockBytes}
-use Rattle.claim_file.specs.Answers.{noClaim}
+use Rattle.claim_file.specs.BlockAnswers.{noClaim}
 use Rattle.claim_file.specs.Files.{claimsOfBlock}
 use Rattle.claim_file.specs.RoundTrip.{DateFits, ClaimFits}
 use Rattle.claim_file.proofs.RecordParts.{same-claim}

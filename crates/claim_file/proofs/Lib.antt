@@ -10,6 +10,6 @@ mod BlockTests
 mod Reading
 mod Changed
 mod ByteStores
-mod Written
+mod WrittenBlocks
 mod Split
 mod Sealed

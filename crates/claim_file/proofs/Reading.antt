@@ -16,7 +16,7 @@ use Rattle.claim_months.specs.declared.Claim.{Claim}
 use Rattle.claim_file.specs.declared.MaybeDates.the-variants.{Known}
 use Rattle.claim_file.specs.Bytes.{dateFrom}
 use Rattle.claim_file.specs.Block.{claimCount, blockClaim, windowBlock, claimBlock}
-use Rattle.claim_file.specs.Answers.{noClaim, claimsIn, readOf, windowOf}
+use Rattle.claim_file.specs.BlockAnswers.{noClaim, claimsIn, readOf, windowOf}
 
 -- what stands in place k when the first n claims have been read
 abbrev pub placed : List ℕ → ℕ → ℕ → Claim

@@ -15,7 +15,7 @@ use Rattle.claim_months.specs.declared.Claim.{Claim}
 use Rattle.claim_file.specs.Bytes.{byteAt, zeroFrom}
 use Rattle.claim_file.specs.declared.MaybeClaim.the-variants.{Found, NoRecord}
 use Rattle.claim_file.specs.Record.{claimFrom, claimBytes, recordPadded}
-use Rattle.claim_file.specs.Answers.{hasRecord, recordIn, recordAfter}
+use Rattle.claim_file.specs.BlockAnswers.{hasRecord, recordIn, recordAfter}
 use Rattle.claim_file.specs.Block.{weightedSum, claimsPadded}
 
 pub same-claim :

@@ -23,12 +23,12 @@ use Rattle.claim_file.specs.declared.WindowDates.{WindowDates}
 use Rattle.claim_file.specs.declared.MaybeDates.the-variants.{Known, Refused}
 use Rattle.claim_file.specs.Bytes.{byteAt, twoAt, dateFrom}
 use Rattle.claim_file.specs.Block.{blockClaim, claimCount, windowBlock, claimBlock, blockSound, windowBytes, blockBytes}
-use Rattle.claim_file.specs.Answers.{noClaim, claimsIn, blockCheck, readOf, windowOf, writeSound, writeCheck, bytesAfter, windowAfter}
+use Rattle.claim_file.specs.BlockAnswers.{noClaim, claimsIn, blockCheck, readOf, windowOf, writeSound, writeCheck, bytesAfter, windowAfter}
 use Rattle.claim_file.specs.Files.{claimsOfBlock}
 use Rattle.claim_file.specs.RoundTrip.{DateFits, ClaimFits, BlockFits, AreBytes, inFifteen, RoundTrips}
 use Rattle.claim_file.proofs.BlockTests.{framed-number, claims-are, claim-block, window-is, window-block}
 use Rattle.claim_file.proofs.Reading.{placed, length-in, at-place, read-known, read-refused, window-known}
-use Rattle.claim_file.proofs.Written.{write-is, write-done, window-done}
+use Rattle.claim_file.proofs.WrittenBlocks.{write-is, write-done, window-done}
 use Rattle.claim_file.proofs.BlockTrips.{written-count, written-sound, written-claim, window-sound, window-first, window-last, rewritten, window-rewritten, framed-changed, changed-refused}
 
 -- the claims in fifteen places, and the first n of them

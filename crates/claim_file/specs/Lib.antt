@@ -2,7 +2,7 @@
 pub mod Bytes
 pub mod Record
 pub mod Block
-pub mod Answers
+pub mod BlockAnswers
 pub mod Run
 pub mod Files
 pub mod RoundTrip

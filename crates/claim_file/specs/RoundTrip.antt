@@ -11,7 +11,7 @@ use Rattle.claim_months.specs.declared.Claim.{Claim}
 use Rattle.claim_file.specs.declared.Block.{Block}
 use Rattle.claim_file.specs.declared.WindowDates.{WindowDates}
 use Rattle.claim_file.specs.declared.MaybeDates.the-variants.{Known, Refused}
-use Rattle.claim_file.specs.Answers.{noClaim, blockCheck, readOf, windowOf, writeCheck, bytesAfter, windowAfter}
+use Rattle.claim_file.specs.BlockAnswers.{noClaim, blockCheck, readOf, windowOf, writeCheck, bytesAfter, windowAfter}
 
 -- fields that the code's widths hold
 pub record DateFits (d : Date) : Type 0 where

@@ -8,7 +8,7 @@ ghost use mathlib.Core.List.{[], _∷_, _++_};
 ghost use Rattle.claim_file.specs.Bytes.{two, zeros};
 ghost use Rattle.claim_file.specs.Record.{allClaimBytes};
 ghost use Rattle.claim_file.specs.Block.{claimCount, blockClaim, weightedSum, claimsPadded, framed, windowBlock, claimBlock, blockSound, checkOf, windowBytes, blockBytes};
-ghost use Rattle.claim_file.specs.Answers.{noClaim, claimsIn, blockCheck, readOf, windowOf, writeCheck, bytesAfter, windowAfter};
+ghost use Rattle.claim_file.specs.BlockAnswers.{noClaim, claimsIn, blockCheck, readOf, windowOf, writeCheck, bytesAfter, windowAfter};
 ghost use lib.Dec.{eqb};
 ghost use Rattle.basics.specs.Pick.{pick};
 use crate::Block;

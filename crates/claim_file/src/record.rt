@@ -7,7 +7,7 @@ ghost use lib.Seq.{sets};
 ghost use mathlib.Core.List.{_++_};
 ghost use Rattle.claim_file.specs.Bytes.{dateBytes};
 ghost use Rattle.claim_file.specs.Record.{claimFrom, claimBytes, recordPadded};
-ghost use Rattle.claim_file.specs.Answers.{hasRecord, recordIn, recordAfter};
+ghost use Rattle.claim_file.specs.BlockAnswers.{hasRecord, recordIn, recordAfter};
 use crate::MaybeClaim;
 use crate::bytes::all_zero;
 use crate::bytes::date_at;

@@ -11,7 +11,7 @@ use Rattle.calendar.specs.declared.Date.{Date}
 use Rattle.calendar.specs.declared.Day.{Day}
 use Rattle.calendar.specs.declared.MaybeDay.the-variants.{Known, NoDay}
 use Rattle.calendar.specs.Calendar.{isDate, dayNumber, monthIndex, monthLength, monthStart, daysBefore, indexLength, lastDayNumber, firstMonth, endMonth}
-use Rattle.calendar.specs.Answers.{dayOf, isMonth, firstDay, lastDay}
+use Rattle.calendar.specs.DayAnswers.{dayOf, isMonth, firstDay, lastDay}
 use Rattle.calendar.proofs.Laws.{date-bounds, length-high, month-of-date, month-of-unique, month-step, day-last}
 use Rattle.claim_months.specs.declared.CheckedClaim.{CheckedClaim}
 use Rattle.claim_months.specs.declared.Claim.{Claim}

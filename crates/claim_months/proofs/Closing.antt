@@ -14,7 +14,7 @@ use Rattle.basics.proofs.Tests.{tests, by, pick-is, is-pick, and-left, and-righ
 use Rattle.calendar.proofs.Laws.{day-last}
 use Rattle.claim_months.specs.declared.Claim.{Claim}
 use Rattle.claim_months.specs.declared.Window.{Window}
-use Rattle.claim_months.specs.Claim.{isMissing, isClosed, bcdDay, terminationDay, firstDuration, category, within}
+use Rattle.claim_months.specs.Claim.{isMissing, isClosed, bcdDay, terminationDay, firstDuration, category, withinDays}
 use Rattle.claim_months.specs.ClaimMonths.{monthFirst, monthLast}
 use Rattle.claim_months.specs.Exposure.{closedIn, exposedFrom, exposedTo, meets, closingCategory, monthRecord, recordsFrom, monthRecords, closings}
 use Rattle.claim_months.proofs.Sound.{Sound}
@@ -45,7 +45,7 @@ unfolding category
 code-range c ok z =
     let l = ok .code-low z in
     let u = ok .code-high z in
-    by (not (isMissing (c .maximum)) && within 45 (terminationDay c) (dayNumber (c .maximum)))
+    by (not (isMissing (c .maximum)) && withinDays 45 (terminationDay c) (dayNumber (c .maximum)))
     (λ y. (1 ≤ pick y 4 (c .code)) × (pick y 4 (c .code) ≤ 5)) (λ _. omega tests) (λ _. omega tests)
 
 -- claim month k's part in a sum over closing months

@@ -1,8 +1,8 @@
 -- `Picked`: an answer that a test picked. `Sound`: what the checks 2 to 5 say. `Months`: the claim months follow one another.
 -- `Settled`: a month's thirtieths as a difference of what is settled before two days. `Additive`, `Closing`: what adds up over a cut.
--- `DateWindows`: the window of two dates. `Parts`, `Adds`: the same over any parts of a window. `Run`, `Spans`: the records are those of consecutive claim months.
+-- `DateWindows`: the window of two dates. `Parts`, `Adds`: the same over any parts of a window. `MonthRuns`, `Spans`: the records are those of consecutive claim months.
 -- `Checked`: the checked value of a claim. `SpanCode`: what the code of a span rests on.
--- `Ranges`: thirtieths, durations and categories of the records. `Rows`: the listing's rows. `Figures`: document 01's figures.
+-- `Ranges`: thirtieths, durations and categories of the records. `Rows`: the listing's rows. `ClaimFigures`: document 01's figures.
 mod Picked
 pub mod Sound
 pub mod Months
@@ -11,13 +11,13 @@ pub mod Additive
 pub mod Parts
 pub mod DateWindows
 pub mod Closing
-pub mod Run
+pub mod MonthRuns
 pub mod Spans
 pub mod SpanAnswers
 mod Checked
 mod SpanCode
 pub mod Ranges
-mod Signed
+mod SignedRecords
 mod Rows
 pub mod Adds
-pub mod Figures
+pub mod ClaimFigures

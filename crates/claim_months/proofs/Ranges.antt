@@ -21,7 +21,7 @@ use Rattle.basics.proofs.Integers.{size-sub, size-sum, size-product}
 use Rattle.claim_months.proofs.Sound.{Sound}
 use Rattle.claim_months.proofs.Months.{next-starts, last-next}
 use Rattle.claim_months.proofs.Closing.{closed-of}
-use Rattle.claim_months.proofs.Run.{run}
+use Rattle.claim_months.proofs.MonthRuns.{run}
 use Rattle.claim_months.proofs.Spans.{B-high, U-high, first-duration, span-run, Runs, category-none, ends-early, by-runs}
 
 -- at most 1,800 records

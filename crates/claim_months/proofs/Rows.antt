@@ -25,7 +25,7 @@ use Rattle.claim_months.specs.Private.{HoldsDay, RowBounds, spanRecord}
 use Rattle.claim_months.proofs.Sound.{Sound}
 use Rattle.claim_months.proofs.Months.{start-low, starts-rise}
 use Rattle.claim_months.proofs.Checked.{later-day}
-use Rattle.claim_months.proofs.Run.{run}
+use Rattle.claim_months.proofs.MonthRuns.{run}
 use Rattle.claim_months.proofs.Spans.{runSpan, span-run, Runs, by-runs, to-window, months-ordered, month-U, month-B, month-category, U-high, B-high, category-high, first-duration}
 
 -- ---- the record of a span's month

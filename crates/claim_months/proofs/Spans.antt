@@ -24,7 +24,7 @@ use Rattle.basics.specs.Series.{sumTo}
 use Rattle.claim_months.specs.Private.{spanCategory}
 use Rattle.claim_months.proofs.Sound.{Sound}
 use Rattle.claim_months.proofs.Months.{first-starts, last-next, starts-rise, months-end}
-use Rattle.claim_months.proofs.Run.{run, records-run, records-none, month-holds}
+use Rattle.claim_months.proofs.MonthRuns.{run, records-run, records-none, month-holds}
 use Rattle.claim_months.proofs.Closing.{monthFrom, closed-of, code-range}
 
 -- a sum from its first term

@@ -32,12 +32,12 @@ unfoldable pub firstDuration : Claim → ℕ
 firstDuration c = (ep c + 15) / 30 + 1
 
 -- two day numbers are n days apart or less
-abbrev pub within : ℕ → ℕ → ℕ → Bool
-within n a b = leb a (b + n) && leb b (a + n)
+abbrev pub withinDays : ℕ → ℕ → ℕ → Bool
+withinDays n a b = leb a (b + n) && leb b (a + n)
 
 -- The category: the code, but max-out (4) if the termination date is 45 days or less before or after a known maximum date
 unfoldable pub category : Claim → ℕ
-category c = pick (not (isMissing (c .maximum)) && within 45 (terminationDay c) (dayNumber (c .maximum))) 4 (c .code)
+category c = pick (not (isMissing (c .maximum)) && withinDays 45 (terminationDay c) (dayNumber (c .maximum))) 4 (c .code)
 
 -- 2, date: disability or BCD no date; closed and termination no date; maximum neither date nor missing
 unfoldable pub datesSound : Claim → Bool

@@ -4,7 +4,7 @@ ghost use mathlib.Core.Bool.{true, not, _&&_, _||_};
 ghost use Prim.Native.Nat.{_-_, _≤_};
 ghost use lib.Dec.{leb, eqb};
 ghost use Rattle.basics.specs.Pick.{pick};
-ghost use Rattle.calendar.specs.Answers.{known, dayOf};
+ghost use Rattle.calendar.specs.DayAnswers.{known, dayOf};
 ghost use Rattle.claim_months.specs.Claim.{isMissing, datesSound, statusSound, claimCheck};
 ghost use Rattle.claim_months.specs.Private.{daysOf, checkedOf};
 use crate::Claim;

@@ -4,7 +4,7 @@ ghost use mathlib.Core.Bool.{true};
 ghost use Prim.Native.Nat.{_+_, _-_, _/_, _≤_};
 ghost use Rattle.basics.specs.Pick.{pick};
 ghost use Rattle.calendar.specs.Calendar.{isDate, monthIndex, lastDayNumber};
-ghost use Rattle.claim_months.specs.Claim.{within, isClosed, category, claimCheck};
+ghost use Rattle.claim_months.specs.Claim.{withinDays, isClosed, category, claimCheck};
 ghost use Rattle.claim_months.specs.Private.{daysOf, monthDay, offsetOf, checkedOf};
 use crate::CheckedClaim;
 use crate::Claim;
@@ -53,7 +53,7 @@ fn first_duration(days: ClaimDays) -> Duration
 fn near(termination: Day, maximum: Day) -> bool
     requires { ⌜ termination .0 ≤ lastDayNumber ⌝ }
     requires { ⌜ maximum .0 ≤ lastDayNumber ⌝ }
-    ensures { λ r. ⌜ r ≡ within 45 (termination .0) (maximum .0) ⌝ }
+    ensures { λ r. ⌜ r ≡ withinDays 45 (termination .0) (maximum .0) ⌝ }
 {
     if termination.0 > maximum.0 + 45 {
         return false;

@@ -1,9 +1,9 @@
 -- Document 01's figures hold of the definitions, all together.
 -- Assumes nothing.
-use Rattle.claim_months.proofs.Figures.{claim-figures}
-use Rattle.valuation.proofs.Figures.{half, whole, short-of-whole, margin-1000}
+use Rattle.claim_months.proofs.ClaimFigures.{claim-figures}
+use Rattle.valuation.proofs.FactorFigures.{half, whole, short-of-whole, margin-1000}
 use Rattle.valuation.proofs.ReserveFigures.{half-throughout, call-answers}
-use Rattle.figures.specs.Figures.{DocumentFigures}
+use Rattle.figures.specs.DocumentFigures.{DocumentFigures}
 
 pub document-figures : DocumentFigures
 document-figures =

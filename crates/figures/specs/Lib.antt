@@ -1,2 +1,2 @@
 -- Document 01, "Figures to hold it to": the lines marked ◆.
-pub mod Figures
+pub mod DocumentFigures

@@ -3,3 +3,4 @@ pub mod Factor
 pub mod Rate
 pub mod Reserve
 pub mod StudyFactor
+pub mod Example

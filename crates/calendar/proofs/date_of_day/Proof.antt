@@ -7,7 +7,7 @@ use borrow.Author.Needs.{needs}
 use borrow.Author.Tests.{le-leb, lt-leb}
 use Rattle.calendar.specs.declared.Date.{Date}
 use Rattle.calendar.specs.Calendar.{monthIndex, monthStart, daysBefore, dateOf, monthOf, lastDayNumber, firstMonth}
-use Rattle.calendar.specs.Answers.{dateAt}
+use Rattle.calendar.specs.DayAnswers.{dateAt}
 use Rattle.calendar.proofs.Laws.{length-high, date-bounds, date-in-month, number-of-date, date-of-day-is-date, month-of-high, same-date}
 use Rattle.calendar.proofs.date_of_day.Statement.{statement}
 use Rattle.calendar.proofs.date_of_day.Tie as tie

@@ -8,7 +8,7 @@ use borrow.Author.Needs.{needs}
 use borrow.Author.Tests.{not-true, not-false}
 use Rattle.calendar.specs.declared.Date.{Date}
 use Rattle.calendar.specs.Calendar.{isDate, monthIndex, monthStart, daysBefore, dayNumber, firstMonth}
-use Rattle.calendar.specs.Answers.{dayOf}
+use Rattle.calendar.specs.DayAnswers.{dayOf}
 use Rattle.calendar.proofs.Laws.{DateBounds, date-bounds, day-last}
 use Rattle.calendar.proofs.day_number.Statement.{statement}
 use Rattle.calendar.proofs.day_number.Tie as tie

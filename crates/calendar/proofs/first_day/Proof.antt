@@ -4,7 +4,7 @@ use mathlib.Core.Bool.{and-false}
 use borrow.Author.Needs.{needs}
 use borrow.Author.Tests.{le-leb, lt-leb}
 use Rattle.calendar.specs.Calendar.{monthStart}
-use Rattle.calendar.specs.Answers.{isMonth, firstDay}
+use Rattle.calendar.specs.DayAnswers.{isMonth, firstDay}
 use Rattle.calendar.proofs.first_day.Statement.{statement}
 use Rattle.calendar.proofs.first_day.Tie as tie
 

@@ -7,7 +7,7 @@ use native.Mathlib.Omega.{arith}
 use borrow.Author.Needs.{needs}
 use borrow.Author.Tests.{le-leb, lt-leb}
 use Rattle.calendar.specs.Calendar.{monthStart, indexLength, daysBefore, firstMonth}
-use Rattle.calendar.specs.Answers.{isMonth, lastDay}
+use Rattle.calendar.specs.DayAnswers.{isMonth, lastDay}
 use Rattle.calendar.proofs.Laws.{month-step, index-length-low}
 use Rattle.calendar.proofs.last_day.Statement.{statement}
 use Rattle.calendar.proofs.last_day.Tie as tie

@@ -3,7 +3,7 @@
 use native.Mathlib.Omega.{arith}
 use borrow.Author.Needs.{needs}
 use borrow.Author.Tests.{le-leb, lt-leb}
-use Rattle.calendar.specs.Answers.{monthAt}
+use Rattle.calendar.specs.DayAnswers.{monthAt}
 use Rattle.calendar.proofs.Laws.{month-of-high}
 use Rattle.calendar.proofs.month_of_day.Statement.{statement}
 use Rattle.calendar.proofs.month_of_day.Tie as tie

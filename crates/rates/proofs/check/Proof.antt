@@ -38,7 +38,8 @@ returns-4 : tie.Need-returns-4
 unfolding rateCheck _then_ cells
 returns-4 c =
     let rates : List ℕ = c .before .before .before .before .before .args .rates .now in
-    simp (table-passes rates (omega arith) (omega arith) (omega arith), le-ltb _ _ (c .if4 .taken))
+    let cell : ℕ = c .before .before .before .before .before .args .cell in
+    simp (table-passes rates (omega arith) (omega arith) (omega arith), le-ltb cell (length rates / 958) (omega arith))
 
 -- past the checks 6 and 7, `sound` decides
 left-to-sound :
@@ -49,8 +50,9 @@ left-to-sound :
 unfolding rateCheck _then_ cells
 left-to-sound c =
     let rates : List ℕ = c .before .before .before .before .before .before .args .rates .now in
+    let cell : ℕ = c .before .before .before .before .before .before .args .cell in
     simp
-    (table-passes rates (omega arith) (omega arith) (omega arith), lt-ltb _ _ (c .before .if4 .left), c .sound .ensures)
+    (table-passes rates (omega arith) (omega arith) (omega arith), lt-ltb cell (length rates / 958) (omega arith), c .sound .ensures)
 
 returns-5 : tie.Need-returns-5
 returns-5 c = rw (c .if5 .taken) at (sym (left-to-sound (c .before)))

@@ -10,7 +10,7 @@ use Rattle.basics.specs.Pick.{pick}
 use Rattle.basics.proofs.Tests.{by}
 use Rattle.claim_file.specs.declared.BlockRead.{BlockRead}
 use Rattle.claim_file.specs.Block.{claimCount, claimBlock, blockSound}
-use Rattle.claim_file.specs.Answers.{claimsIn, windowOf, readOf, blockCheck}
+use Rattle.claim_file.specs.BlockAnswers.{claimsIn, windowOf, readOf, blockCheck}
 use Rattle.c_abi.specs.Abi.{windowStored, readStored, answered, stored}
 use Rattle.c_abi.proofs.Lent.{short, long}
 use borrow.Author.Needs.{needs}

@@ -6,7 +6,7 @@ use mathlib.Core.List.{List}
 use lib.ListN.{length}
 use borrow.Author.Tests.{lt-ltb, le-ltb, le-leb, lt-leb, not-true, not-false}
 use Rattle.claim_file.specs.declared.Block.{Block}
-use Rattle.claim_file.specs.Answers.{writeCheck, bytesAfter}
+use Rattle.claim_file.specs.BlockAnswers.{writeCheck, bytesAfter}
 use Rattle.c_abi.specs.Abi.{allBytes, placed, blockOf, writeAnswer, writeAfter}
 use borrow.Author.Needs.{needs}
 use Rattle.c_abi.proofs.block.ltd_write_block.Statement.{statement}

@@ -3,7 +3,7 @@ use mathlib.Core.Path.{_≡_, _∙_}
 use mathlib.Core.List.{List}
 use Prim.Native.Nat.{ℕ}
 use Rattle.calendar.specs.declared.Date.{Date}
-use Rattle.claim_file.specs.Answers.{windowAfter}
+use Rattle.claim_file.specs.BlockAnswers.{windowAfter}
 use borrow.Author.Needs.{needs}
 use Rattle.c_abi.proofs.block.ltd_write_window.Statement.{statement}
 use Rattle.c_abi.proofs.block.ltd_write_window.Tie as tie

@@ -11,7 +11,7 @@ use Rattle.claim_file.specs.declared.MaybeDates.{MaybeDates}
 use Rattle.claim_file.specs.declared.MaybeDates.the-variants.{Known, Refused}
 use Rattle.claim_file.specs.Bytes.{dateFrom}
 use Rattle.claim_file.specs.Block.{windowBlock, blockSound}
-use Rattle.claim_file.specs.Answers.{windowOf, blockCheck}
+use Rattle.claim_file.specs.BlockAnswers.{windowOf, blockCheck}
 use Rattle.c_abi.specs.Abi.{dateNumber, windowStored}
 use borrow.Author.Needs.{needs}
 use Rattle.c_abi.proofs.block.read_window.Statement.{statement}

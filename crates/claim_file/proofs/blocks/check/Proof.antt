@@ -1,6 +1,6 @@
 -- `check` meets its contract. Assumes nothing.
 use mathlib.Core.Path.{sym, _∙_}
-use Rattle.claim_file.specs.Answers.{blockCheck}
+use Rattle.claim_file.specs.BlockAnswers.{blockCheck}
 use borrow.Author.Needs.{needs}
 use Rattle.claim_file.proofs.blocks.check.Statement.{statement}
 use Rattle.claim_file.proofs.blocks.check.Tie as tie

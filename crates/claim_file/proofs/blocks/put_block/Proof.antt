@@ -3,7 +3,7 @@ use native.Mathlib.Omega.{arith}
 use mathlib.Core.Path.{_≡_, sym, _∙_}
 use lib.ListN.{length, take, length-map}
 use lib.Seq.{length-take-le}
-use Rattle.claim_file.proofs.Written.{block-written}
+use Rattle.claim_file.proofs.WrittenBlocks.{block-written}
 use borrow.Author.Needs.{needs}
 use Rattle.claim_file.proofs.blocks.put_block.Statement.{statement}
 use Rattle.claim_file.proofs.blocks.put_block.Tie as tie

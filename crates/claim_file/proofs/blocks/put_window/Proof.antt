@@ -1,6 +1,6 @@
 -- `put_window` meets its contract: head, dates, zeros and check, one run after another. Assumes nothing.
 use borrow.Author.Needs.{needs}
-use Rattle.claim_file.proofs.Written.{window-written}
+use Rattle.claim_file.proofs.WrittenBlocks.{window-written}
 use Rattle.claim_file.proofs.blocks.put_window.Statement.{statement}
 use Rattle.claim_file.proofs.blocks.put_window.Tie as tie
 

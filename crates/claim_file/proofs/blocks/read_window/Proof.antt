@@ -6,7 +6,7 @@ use mathlib.Core.Path.{_≡_, sym, _∙_}
 use mathlib.Core.Bool.{true}
 use borrow.Author.Tests.{not-true, not-false}
 use Rattle.claim_file.specs.Block.{windowBlock}
-use Rattle.claim_file.specs.Answers.{windowOf}
+use Rattle.claim_file.specs.BlockAnswers.{windowOf}
 use Rattle.claim_file.proofs.BlockTests.{window-block}
 use borrow.Author.Needs.{needs}
 use Rattle.claim_file.proofs.blocks.read_window.Statement.{statement}

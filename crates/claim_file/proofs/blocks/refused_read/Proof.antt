@@ -4,7 +4,7 @@ use Rattle.claim_months.specs.declared.Claim.{Claim}
 use Rattle.claim_file.specs.Bytes.{byteAt}
 use Rattle.claim_file.specs.Block.{claimCount}
 use mathlib.Core.Path.{ap}
-use Rattle.claim_file.specs.Answers.{readOf, claimsIn}
+use Rattle.claim_file.specs.BlockAnswers.{readOf, claimsIn}
 use borrow.Author.Needs.{needs}
 use Rattle.claim_file.proofs.blocks.refused_read.Statement.{statement}
 use Rattle.claim_file.proofs.blocks.refused_read.Tie as tie

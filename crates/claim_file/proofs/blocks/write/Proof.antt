@@ -3,7 +3,7 @@ use mathlib.Core.Path.{refl}
 use native.Mathlib.Omega.{arith}
 use lib.ListN.{length}
 use borrow.Author.Tests.{le-leb, lt-leb, eq-eqb, ne-eqb}
-use Rattle.claim_file.proofs.Written.{write-is, write-refused, write-done}
+use Rattle.claim_file.proofs.WrittenBlocks.{write-is, write-refused, write-done}
 use borrow.Author.Needs.{needs}
 use Rattle.claim_file.proofs.blocks.write.Statement.{statement}
 use Rattle.claim_file.proofs.blocks.write.Tie as tie

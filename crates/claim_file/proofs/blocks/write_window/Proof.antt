@@ -1,6 +1,6 @@
 -- `write_window` meets its contract. Assumes nothing.
 use borrow.Author.Needs.{needs}
-use Rattle.claim_file.proofs.Written.{window-refused, window-done}
+use Rattle.claim_file.proofs.WrittenBlocks.{window-refused, window-done}
 use Rattle.claim_file.proofs.blocks.write_window.Statement.{statement}
 use Rattle.claim_file.proofs.blocks.write_window.Tie as tie
 

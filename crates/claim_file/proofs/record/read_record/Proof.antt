@@ -7,7 +7,7 @@ use lib.ListN.{length}
 use borrow.Author.Needs.{needs}
 use borrow.Author.Tests.{leb-true, not-true, not-false}
 use Rattle.claim_file.specs.declared.MaybeClaim.the-variants.{Found}
-use Rattle.claim_file.specs.Answers.{hasRecord}
+use Rattle.claim_file.specs.BlockAnswers.{hasRecord}
 use Rattle.claim_file.proofs.RecordParts.{no-room, not-padded, record-found}
 use Rattle.claim_file.proofs.record.read_record.Statement.{statement}
 use Rattle.claim_file.proofs.record.read_record.Tie as tie

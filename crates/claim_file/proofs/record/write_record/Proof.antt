@@ -6,7 +6,7 @@ use native.Mathlib.Omega.{arith}
 use lib.ListN.{length}
 use borrow.Author.Needs.{needs}
 use borrow.Author.Tests.{leb-true, not-true, not-false}
-use Rattle.claim_file.specs.Answers.{hasRecord}
+use Rattle.claim_file.specs.BlockAnswers.{hasRecord}
 use Rattle.claim_file.proofs.RecordParts.{record-left, record-stored}
 use Rattle.claim_file.proofs.record.write_record.Statement.{statement}
 use Rattle.claim_file.proofs.record.write_record.Tie as tie

@@ -9,7 +9,7 @@ use Rattle.calendar.specs.declared.Date.{Date}
 use Rattle.calendar.specs.declared.Day.{Day}
 use Rattle.calendar.specs.declared.MaybeDay.the-variants.{Known, NoDay}
 use Rattle.calendar.specs.Calendar.{isDate, dayNumber}
-use Rattle.calendar.specs.Answers.{known, dayOf}
+use Rattle.calendar.specs.DayAnswers.{known, dayOf}
 use Rattle.claim_months.specs.declared.Claim.{Claim}
 use Rattle.claim_months.specs.declared.MaybeDays.the-variants.{Days, NoDays}
 use Rattle.claim_months.specs.Claim.{isMissing, isClosed, datesSound}

@@ -8,7 +8,7 @@ use Rattle.claim_months.specs.declared.MonthDay.{MonthDay}
 use Rattle.claim_months.specs.Exposure.{exposedFrom, exposedTo}
 use Rattle.claim_months.specs.Span.{spanOf}
 use Rattle.claim_months.specs.Private.{Placed, Stands}
-use Rattle.claim_months.proofs.Run.{records-none}
+use Rattle.claim_months.proofs.MonthRuns.{records-none}
 use Rattle.claim_months.proofs.Spans.{first-duration}
 use Rattle.claim_months.proofs.Checked.{later-day, claim-sound, first-is, from-is, from-placed, to-is, to-placed, last-u-is, last-category-is}
 use Rattle.claim_months.proofs.SpanCode.{SpanEnds, month-days, places-ordered, place-high, code-span}

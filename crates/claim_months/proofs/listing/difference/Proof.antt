@@ -6,7 +6,7 @@ use lib.IntN.{pos, subℕ, _-ℤ_}
 use mir.Syntax.{w32}
 use mir.Val.{SFits, toZ, ofZ}
 use Rattle.basics.proofs.Integers.{sub-is}
-use Rattle.claim_months.proofs.Signed.{small-fits, read-back, difference-size}
+use Rattle.claim_months.proofs.SignedRecords.{small-fits, read-back, difference-size}
 use borrow.Author.Needs.{needs}
 use Rattle.claim_months.proofs.listing.difference.Statement.{statement}
 use Rattle.claim_months.proofs.listing.difference.Tie as tie

@@ -10,7 +10,7 @@ use lib.Seq.{sets}
 use Rattle.calendar.specs.Calendar.{monthOf}
 use Rattle.calendar.proofs.Laws.{month-of-high}
 use Rattle.claim_months.specs.Listing.{row}
-use Rattle.claim_months.proofs.Signed.{read-back, difference-size}
+use Rattle.claim_months.proofs.SignedRecords.{read-back, difference-size}
 use borrow.Author.Needs.{needs}
 use Rattle.claim_months.proofs.listing.put_row.Statement.{statement}
 use Rattle.claim_months.proofs.listing.put_row.Tie as tie

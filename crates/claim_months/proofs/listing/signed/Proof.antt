@@ -3,7 +3,7 @@
 use mathlib.Core.Path.{refl}
 use borrow.Author.Needs.{needs}
 use lib.IntN.{pos}
-use Rattle.claim_months.proofs.Signed.{read-back}
+use Rattle.claim_months.proofs.SignedRecords.{read-back}
 use Rattle.claim_months.proofs.listing.signed.Statement.{statement}
 use Rattle.claim_months.proofs.listing.signed.Tie as tie
 

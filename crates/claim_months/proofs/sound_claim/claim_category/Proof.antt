@@ -10,7 +10,7 @@ use Rattle.calendar.specs.Calendar.{lastDayNumber}
 use Rattle.calendar.proofs.Laws.{day-last}
 use Rattle.claim_months.specs.declared.Claim.{Claim}
 use Rattle.claim_months.specs.declared.ClaimDays.{ClaimDays}
-use Rattle.claim_months.specs.Claim.{within, isMissing, isClosed, category, claimCheck}
+use Rattle.claim_months.specs.Claim.{withinDays, isMissing, isClosed, category, claimCheck}
 use Rattle.claim_months.specs.Private.{daysOf}
 use Rattle.claim_months.proofs.Sound.{sound}
 use borrow.Author.Needs.{needs}
@@ -25,7 +25,7 @@ module _ (c : Claim) (z : isClosed c ≡ true) where
 
   -- with a known one, near or not decides
   module _ (x : ClaimDays) (h : x ≡ daysOf c) (m : isMissing (c .maximum) ≡ false) where
-    decided : (n : Bool) → n ≡ within 45 (x .termination .0) (x .maximum .0) → pick (isClosed c) (category c) 0 ≡ pick n 4 (c .code)
+    decided : (n : Bool) → n ≡ withinDays 45 (x .termination .0) (x .maximum .0) → pick (isClosed c) (category c) 0 ≡ pick n 4 (c .code)
     unfolding category
     decided n f = rw (f, h, z, m)
 

@@ -6,7 +6,7 @@ use native.Mathlib.Omega.{arith}
 use borrow.Author.Tests.{le-leb, lt-leb}
 use Rattle.calendar.specs.declared.Date.{Date}
 use Rattle.calendar.specs.Calendar.{monthLength, monthIndex}
-use Rattle.calendar.specs.Answers.{lastDay}
+use Rattle.calendar.specs.DayAnswers.{lastDay}
 use Rattle.calendar.proofs.Laws.{date-bounds, date-in-month}
 use Rattle.claim_months.specs.declared.MonthDay.{MonthDay}
 use Rattle.claim_months.specs.Private.{dayIn, offsetOf}

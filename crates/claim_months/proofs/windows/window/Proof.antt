@@ -5,7 +5,7 @@ use mathlib.Core.Bool.{Bool, true, false, and-false}
 use Rattle.calendar.specs.declared.Date.{Date}
 use Rattle.calendar.specs.declared.Day.{Day}
 use Rattle.calendar.specs.declared.MaybeDay.the-variants.{Known, NoDay}
-use Rattle.calendar.specs.Answers.{dayOf}
+use Rattle.calendar.specs.DayAnswers.{dayOf}
 use Rattle.claim_months.specs.declared.MaybeWindow.the-variants as found
 use Rattle.claim_months.specs.Windows.{windowSound, datesWindow, windowIn}
 use Rattle.claim_months.proofs.Checked.{day-known, day-unknown}

@@ -4,7 +4,7 @@ use mathlib.Core.Path.{_≡_}
 use borrow.Author.Tests.{le-leb}
 use Rattle.calendar.specs.Calendar.{monthOf, lastDayNumber}
 use Rattle.calendar.specs.declared.MaybeMonth.the-variants.{Index}
-use Rattle.calendar.specs.Answers.{monthAt}
+use Rattle.calendar.specs.DayAnswers.{monthAt}
 use borrow.Author.Needs.{needs}
 use Rattle.claim_months.proofs.windows.with_month.Statement.{statement}
 use Rattle.claim_months.proofs.windows.with_month.Tie as tie

@@ -5,7 +5,7 @@ use borrow.Author.Needs.{needs}
 use borrow.Author.Tests.{le-leb, lt-leb}
 use native.Mathlib.Omega.{arith}
 use Rattle.valuation.specs.Rate.{durationSound}
-use Rattle.valuation.proofs.Answers.{rate-table, rate-duration, rate-found}
+use Rattle.valuation.proofs.AnswerTests.{rate-table, rate-duration, rate-found}
 use Rattle.valuation.proofs.rate.valuation_rate.Statement.{statement}
 use Rattle.valuation.proofs.rate.valuation_rate.Tie as tie
 

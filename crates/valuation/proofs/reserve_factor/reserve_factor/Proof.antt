@@ -8,7 +8,7 @@ use native.Mathlib.Omega.{arith}
 use lib.Dec.{leb}
 use Rattle.valuation.specs.Rate.{durationSound}
 use Rattle.valuation.specs.Reserve.{reserveOf}
-use Rattle.valuation.proofs.Answers.{
+use Rattle.valuation.proofs.AnswerTests.{
   reserve-table,
   reserve-duration,
   reserve-discount,

@@ -24,6 +24,9 @@ add-terminations c =
     let counts = c .before .group .result .closings in
     let first : Fits w32 (getD counts 0 0) = search needs in
     let second : Fits w32 (getD counts 1 0) = search needs in
+    -- not for the code, but for an edit that adds another category: it then fails on C, and not on a bound
+    let third : Fits w32 (getD counts 2 0) = search needs in
+    let fourth : Fits w32 (getD counts 3 0) = search needs in
     omega arith
 
 -- from a group's figures, with E as its positive part

@@ -21,7 +21,7 @@ use Rattle.basics.specs.Series.{sumTo}
 use Rattle.claim_months.specs.ClaimFigures.{Exposed, ClaimFigures}
 use Rattle.claim_months.proofs.Sound.{sound}
 use Rattle.claim_months.proofs.SpanCode.{checks-passed}
-use Rattle.claim_months.proofs.Run.{run}
+use Rattle.claim_months.proofs.MonthRuns.{run}
 use Rattle.claim_months.proofs.Spans.{runSpan, span-run, run-last, Runs, runs-records, month-thirtieths, span-weighted}
 
 -- claim month k holds f, and claim month k + m holds l

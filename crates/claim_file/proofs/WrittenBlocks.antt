@@ -13,7 +13,7 @@ use Rattle.basics.specs.Pick.{pick}
 use Rattle.calendar.specs.declared.Date.{Date}
 use Rattle.claim_months.specs.declared.Claim.{Claim}
 use Rattle.claim_file.specs.declared.Block.{Block}
-use Rattle.claim_file.specs.Answers.{writeSound, writeCheck, bytesAfter, windowAfter}
+use Rattle.claim_file.specs.BlockAnswers.{writeSound, writeCheck, bytesAfter, windowAfter}
 use Rattle.claim_file.specs.Bytes.{byteAt, two, dateBytes, zeros}
 use Rattle.claim_file.specs.Record.{allClaimBytes}
 use Rattle.claim_file.specs.Block.{checkOf, sealed, windowBytes, blockBytes}

@@ -6,8 +6,8 @@ use lib.IntN.{pos}
 use Rattle.claim_months.specs.ClaimFigures.{ClaimFigures}
 use Rattle.valuation.specs.Factor.{credibility, margin}
 use Rattle.valuation.specs.Reserve.{monthRate, reserveOf, reserveIn}
+use Rattle.valuation.specs.Example.{half, figure, halfTable, even}
 use Rattle.valuation.specs.declared.Reserve.the-variants.{Factor}
-use Rattle.valuation.proofs.ReserveFigures.{half, figure, table, even}
 
 pub record DocumentFigures : Type 0 where
   -- the calendar, claim and exposure lines, each a field of `ClaimFigures` with the line it quotes: 2000-02-29 and 2001-02-29; BCD 2011-01-29;
@@ -21,4 +21,4 @@ pub record DocumentFigures : Type 0 where
   -- ◆ g 500,000 throughout, V 0.5, N 2: factor 0.3125. For every table that gives this g, and the call's answer for one of them
   pub half-throughout : (rates : List ℕ) (cell first : ℕ) (t : List ℕ) → ((n : ℕ) → monthRate rates cell first t n ≡ 500000)
       → reserveOf rates cell first t 2 half ≡ figure
-  pub half-answer : reserveIn table 0 4 even 2 half ≡ Factor figure
+  pub half-answer : reserveIn halfTable 0 4 even 2 half ≡ Factor figure
