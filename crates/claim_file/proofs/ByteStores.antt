@@ -8,10 +8,13 @@ use native.Mathlib.Nat.{mul-add-div, div-div-eq-div-mul, mul-add-mod-self-left}
 use native.Mathlib.Numerals.{add-one}
 use lib.ListN.{length, set, getD, take, length-append, drop-of-length-le}
 use lib.Seq.{sets, sets-eq, take-suc, length-take-le}
+use borrow.Author.Tests.{le-leb}
 use Rattle.basics.proofs.Stores.{run}
 use Rattle.claim_months.specs.declared.Claim.{Claim}
 use Rattle.claim_file.specs.Bytes.{two, zeros}
 use Rattle.claim_file.specs.Record.{claimBytes, allClaimBytes}
+use Rattle.claim_file.specs.BlockAnswers.{recordAfter}
+use Rattle.claim_file.proofs.RecordParts.{record-stored}
 
 pub sets-all : (l vs : List ℕ) → length vs ≡ length l → sets l 0 vs ≡ vs
 sets-all l vs e =
@@ -63,14 +66,29 @@ all-append [] ys = refl
 all-append (x ∷ xs) ys =
     ap (λ (r : List ℕ). claimBytes x ++ r) (all-append xs ys) ∙ sym (append-assoc (claimBytes x) (allClaimBytes xs) (allClaimBytes ys))
 
-pub all-ends : (cs : List Claim) (n : ℕ) → n ≤ length cs → 16 + 32 * n ≡ 16 + length (allClaimBytes (take n cs))
-all-ends cs n h = let a = length-all (take n cs) in let b = length-take-le n cs h in omega arith
-
 -- one claim more
-pub all-more : (cs : List Claim) (n : ℕ) (d : Claim) → n < length cs
+all-more : (cs : List Claim) (n : ℕ) (d : Claim) → n < length cs
     → allClaimBytes (take n cs) ++ claimBytes (getD cs n d) ≡ allClaimBytes (take (n + 1) cs)
 unfolding allClaimBytes claimBytes
 all-more cs n d h =
     sym (ap (λ (k : ℕ). allClaimBytes (take k cs)) (add-one n)
     ∙ ap allClaimBytes (take-suc cs n d h)
     ∙ all-append (take n cs) (getD cs n d ∷ []))
+
+-- the first n of some claims' records in one run from a byte on: none of them, and one more, stored by its bytes or by `write_record`
+module _ (l : List ℕ) (at : ℕ) (cs : List Claim) where
+  pub none-stored : l ≡ sets l at (allClaimBytes (take 0 cs))
+  unfolding allClaimBytes
+  none-stored = refl
+
+  pub one-stored : (a b : List ℕ) (n j : ℕ) (d : Claim) → n < length cs → j ≡ at + 32 * n → a ≡ sets l at (allClaimBytes (take n cs))
+      → b ≡ sets a j (claimBytes (getD cs n d)) → b ≡ sets l at (allClaimBytes (take (n + 1) cs))
+  one-stored a b n j d h e p q =
+      let t = length-all (take n cs) in
+      let k = length-take-le n cs (omega arith) in
+      run l a b (allClaimBytes (take n cs)) (claimBytes (getD cs n d)) at j (omega arith) p q ∙ ap (sets l at) (all-more cs n d h)
+
+  pub one-written : (a b : List ℕ) (n j : ℕ) (d : Claim) → n < length cs → j ≡ at + 32 * n → j + 32 ≤ length a
+      → a ≡ sets l at (allClaimBytes (take n cs)) → b ≡ recordAfter (getD cs n d) j a → b ≡ sets l at (allClaimBytes (take (n + 1) cs))
+  one-written a b n j d h e r p q =
+      one-stored a b n j d h e p (q ∙ sym (record-stored a j (getD cs n d) (le-leb (j + 32) (length a) r)))

@@ -1,15 +1,15 @@
--- `RoundTrip`: the round trips of the calls. `Feeding`: a file in pieces. `Files`: demand 3 for files. The other modules have what these and the proofs
--- of the calls cite.
+-- `RoundTrip`: the round trips of the calls. `Feeding`: a file in pieces. `Files`: demand 3 for files. `Reading`: a claim block read. `ByteStores`: runs
+-- of stores, of claims' records among them. The other modules have what these and the proofs of the calls cite.
 pub mod RoundTrip
 pub mod Feeding
 pub mod Files
+pub mod Reading
+pub mod ByteStores
 mod BlockTrips
 mod Runs
 mod RecordParts
 mod BlockTests
-mod Reading
 mod Changed
-mod ByteStores
 mod WrittenBlocks
 mod Split
 mod Sealed

@@ -2,7 +2,7 @@
 -- Assumes nothing.
 use Prim.Native.Nat.{ℕ, zero, suc, _+_, _≤_, _<_}
 use mathlib.Core.Path.{_≡_, refl, sym, ap, _∙_}
-use mathlib.Core.Bool.{Bool, true, false, and-false}
+use mathlib.Core.Bool.{Bool, true, false, _&&_, and-false}
 use mathlib.Core.List.{List, []}
 use native.Mathlib.Omega.{arith}
 use native.Mathlib.Nat.{not-suc-le-zero, le-of-suc-le-suc}
@@ -11,12 +11,15 @@ use lib.Seq.{ext-getD, getD-set-same, getD-set-other}
 use lib.Dec.{leb, eqb}
 use borrow.Author.Tests.{le-leb, lt-leb, eqb-true, eqb-false}
 use Rattle.basics.specs.Pick.{pick}
-use Rattle.basics.proofs.Tests.{by, tests}
+use Rattle.basics.specs.Checks.{refuse-block}
+use Rattle.basics.proofs.Tests.{by, tests, and-right}
 use Rattle.claim_months.specs.declared.Claim.{Claim}
+use Rattle.claim_file.specs.declared.BlockRead.{BlockRead}
 use Rattle.claim_file.specs.declared.MaybeDates.the-variants.{Known}
 use Rattle.claim_file.specs.Bytes.{dateFrom}
 use Rattle.claim_file.specs.Block.{claimCount, blockClaim, windowBlock, claimBlock}
 use Rattle.claim_file.specs.BlockAnswers.{noClaim, claimsIn, readOf, windowOf}
+use Rattle.claim_file.proofs.BlockTests.{claim-block}
 
 -- what stands in place k when the first n claims have been read
 abbrev pub placed : List ℕ → ℕ → ℕ → Claim
@@ -95,6 +98,17 @@ pub read-known : (due : ℕ) (bytes : List ℕ) (claims : List Claim) → (due �
     → record { refused = 0; block = record { count = claimCount bytes; claims = claims } } ≡ readOf due bytes
 unfolding readOf
 read-known due bytes claims n e q = rw (q, e, le-leb 1 due (omega arith))
+
+-- a reading has at most fifteen claims
+pub read-count : (due : ℕ) (bytes : List ℕ) → readOf due bytes .block .count ≤ 15
+unfolding readOf
+read-count due bytes =
+    by (leb 1 due && claimBlock due bytes)
+    (λ t.
+    pick {A = BlockRead} t (record { refused = 0; block = record { count = claimCount bytes; claims = claimsIn bytes 0 15 } })
+    (record { refused = refuse-block; block = record { count = 0; claims = claimsIn [] 0 15 } }) .block .count
+    ≤ 15)
+    (λ e. claim-block due bytes (and-right (leb 1 due) (claimBlock due bytes) e) .count-so) (λ e. omega arith)
 
 pub window-known : (bytes : List ℕ) → windowBlock bytes ≡ true
     → Known (record { first = dateFrom bytes 16; last = dateFrom bytes 20 }) ≡ windowOf bytes

@@ -8,7 +8,7 @@ ghost use mathlib.Core.List.{[], _∷_, _++_};
 ghost use Rattle.claim_file.specs.Bytes.{two, zeros};
 ghost use Rattle.claim_file.specs.Record.{allClaimBytes};
 ghost use Rattle.claim_file.specs.Block.{claimCount, blockClaim, weightedSum, claimsPadded, framed, windowBlock, claimBlock, blockSound, checkOf, windowBytes, blockBytes};
-ghost use Rattle.claim_file.specs.BlockAnswers.{noClaim, claimsIn, blockCheck, readOf, windowOf, writeCheck, bytesAfter, windowAfter};
+ghost use Rattle.claim_file.specs.BlockAnswers.{claimsIn, blockCheck, readOf, windowOf, writeCheck, bytesAfter, windowAfter};
 ghost use lib.Dec.{eqb};
 ghost use Rattle.basics.specs.Pick.{pick};
 use crate::Block;
@@ -23,6 +23,7 @@ use crate::bytes::put_zeros;
 use crate::bytes::two_at;
 use crate::record::claim_from;
 use crate::record::is_padded;
+use crate::record::no_claim;
 use crate::record::put_claim;
 use basics::refusal;
 use calendar::Date;
@@ -142,27 +143,6 @@ pub fn read_window(bytes: &[u8]) -> MaybeDates
         first: date_at(bytes, 16),
         last: date_at(bytes, 20),
     })
-}
-
-// A claim of zeros.
-fn no_claim() -> Claim
-    ensures { λ r. ⌜ r ≡ noClaim ⌝ }
-{
-    let none = Date {
-        year: 0,
-        month: 0,
-        day: 0,
-    };
-    Claim {
-        number: 0,
-        disability: none,
-        bcd: none,
-        termination: none,
-        maximum: none,
-        status: 0,
-        code: 0,
-        cell: 0,
-    }
 }
 
 // The claims of a sound block, and zeros in the places past them.

@@ -7,7 +7,7 @@ ghost use lib.Seq.{sets};
 ghost use mathlib.Core.List.{_++_};
 ghost use Rattle.claim_file.specs.Bytes.{dateBytes};
 ghost use Rattle.claim_file.specs.Record.{claimFrom, claimBytes, recordPadded};
-ghost use Rattle.claim_file.specs.BlockAnswers.{hasRecord, recordIn, recordAfter};
+ghost use Rattle.claim_file.specs.BlockAnswers.{noClaim, hasRecord, recordIn, recordAfter};
 use crate::MaybeClaim;
 use crate::bytes::all_zero;
 use crate::bytes::date_at;
@@ -15,7 +15,29 @@ use crate::bytes::four_at;
 use crate::bytes::put_date;
 use crate::bytes::put_four;
 use crate::bytes::put_zeros;
+use calendar::Date;
 use claim_months::Claim;
+
+// A claim of zeros.
+pub fn no_claim() -> Claim
+    ensures { λ r. ⌜ r ≡ noClaim ⌝ }
+{
+    let none = Date {
+        year: 0,
+        month: 0,
+        day: 0,
+    };
+    Claim {
+        number: 0,
+        disability: none,
+        bcd: none,
+        termination: none,
+        maximum: none,
+        status: 0,
+        code: 0,
+        cell: 0,
+    }
+}
 
 // The claim whose record starts at a byte.
 pub(crate) fn claim_from(bytes: &[u8], at: usize) -> Claim

@@ -1,12 +1,11 @@
 -- `put_claims` meets its contract. The loop's invariant: the claims stored so far, in one run. Assumes nothing.
 use native.Mathlib.Omega.{arith}
 use mathlib.Core.Path.{_≡_, refl, sym, ap, _∙_}
-use Prim.Native.Nat.{ℕ, _+_, _*_, _-_, _≤_}
+use Prim.Native.Nat.{ℕ, _-_, _≤_}
 use lib.ListN.{length, take, length-map}
 use lib.Seq.{sets}
-use Rattle.claim_file.specs.Record.{allClaimBytes, claimBytes}
-use Rattle.basics.proofs.Stores.{run}
-use Rattle.claim_file.proofs.ByteStores.{all-ends, all-more}
+use Rattle.claim_file.specs.Record.{allClaimBytes}
+use Rattle.claim_file.proofs.ByteStores.{none-stored, one-stored}
 use Rattle.claim_file.proofs.blocks.put_claims.Statement.{statement}
 use Rattle.claim_file.proofs.blocks.put_claims.Tie as tie
 
@@ -17,8 +16,7 @@ abbrev μ-loop : tie.MeasureT-loop
 μ-loop bytes₀ block place₀ place-end bytes place = block .count - place
 
 loop-holds : tie.Need-loop-holds Inv-loop μ-loop
-unfolding allClaimBytes
-loop-holds c = (omega arith, refl, c .before .pre .0)
+loop-holds c = let s = c .before .args in (omega arith, none-stored (s .bytes .now) 16 (s .t1 .claims), c .before .pre .0)
 
 loop-again : tie.Need-loop-again Inv-loop μ-loop
 loop-again c =
@@ -28,9 +26,7 @@ loop-again c =
     let cs = s .args .t1 .claims in
     let fifteen : length cs ≡ 15 = sym (length-map cs _) ∙ s .good .0 .1 .1 .1 .0 .1 .0 .1 in (
       omega arith,
-      run (s .args .bytes .now) (l .bytes) _ (allClaimBytes (take (l .place) cs)) (claimBytes _) 16 (16 + 32 * l .place)
-          (all-ends cs (l .place) (omega arith)) (l .inv .1) (d .put-claim .ensures)
-          ∙ ap (sets (s .args .bytes .now) 16) (all-more cs (l .place) _ (omega arith)),
+      one-stored (s .args .bytes .now) 16 cs (l .bytes) _ (l .place) _ _ (omega arith) refl (l .inv .1) (d .put-claim .ensures),
       omega arith,
     )
 
