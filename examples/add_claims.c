@@ -7,6 +7,8 @@
 
 #define BLOCK 512
 #define STUDY 43
+/* What an answer of 64 bits has above the number refused. */
+#define REFUSED ((uint64_t)1 << 32)
 /* Of 64 cells, the most that a table may have. */
 #define RATES (64 * 958)
 
@@ -57,19 +59,18 @@ static int open_study(const uint8_t *block, size_t length, int64_t *study) {
 
 /* Adds the claims of a block. Answers 0, or 1 with a message. */
 static int add_block(const uint8_t *block, size_t length, uint32_t number, size_t rates_count, int64_t *study) {
-    static uint32_t read[121];
-    uint8_t place;
-    uint8_t refused = ltd_read_block(block, length, number, read, 121);
-    if (refused != 0) {
-        fprintf(stderr, "refused %d block %" PRIu32 " claim 0\n", refused, number);
+    uint8_t claims[15 * sizeof(struct ltd_claim)];
+    uint64_t count = ltd_read_block(block, length, number, claims, sizeof claims);
+    uint64_t place;
+    if (count >= REFUSED) {
+        fprintf(stderr, "refused %" PRIu64 " block %" PRIu32 " claim 0\n", count - REFUSED, number);
         return 1;
     }
-    /* A sound block has its number of claims in byte 2, and their records from byte 16 on. */
-    for (place = 1; place <= block[2]; place++) {
-        const uint8_t *record = block + 16 + (place - 1) * sizeof(struct ltd_claim);
-        refused = ltd_add(study, STUDY, record, sizeof(struct ltd_claim), rates, rates_count);
+    for (place = 1; place <= count; place++) {
+        const uint8_t *record = claims + (place - 1) * sizeof(struct ltd_claim);
+        uint8_t refused = ltd_add(study, STUDY, record, sizeof(struct ltd_claim), rates, rates_count);
         if (refused != 0) {
-            fprintf(stderr, "refused %d block %" PRIu32 " claim %d, claim number %" PRIu32 "\n", refused, number, place, four_bytes(record));
+            fprintf(stderr, "refused %d block %" PRIu32 " claim %" PRIu64 ", claim number %" PRIu32 "\n", refused, number, place, four_bytes(record));
             return 1;
         }
     }

@@ -1,8 +1,9 @@
 /* The engine's calls for C and Rust. A slice is a pointer and a length in elements. No call keeps a pointer or writes outside the lent lists.
    A null list has length 0. A list that is written may overlap no other list of the call; a list too long is taken, its rest untouched.
    A date is the claim file's four bytes as one number, low byte first: year + 65,536 × month + 16,777,216 × day.
-   A claim is eight numbers: claim number, disability date, BCD, termination date, maximum date, status, code, cell.
-   A refusal is the number of document 01's table. 255 says that a lent list has not the length asked for; nothing is written then. */
+   A claim is its record, the 32 bytes of struct ltd_claim; a longer list is taken by its first 32.
+   A refusal is the number of document 01's table. 255 says that a lent list has not the length or form asked for, before any numbered
+   check; nothing is written then. */
 #ifndef LTD_STUDY_H
 #define LTD_STUDY_H
 #include <stddef.h>
@@ -37,35 +38,36 @@ uint8_t ltd_add(int64_t *study, size_t study_len, const uint8_t *claim, size_t c
 /* The dates of block 0's window into dates (2 numbers). Answers 0 or 11, dates untouched. 255 if dates is shorter than 2. */
 uint8_t ltd_read_window(const uint8_t *block, size_t block_len, uint32_t *dates, size_t dates_len);
 
-/* The month records of a claim in the window first..last, six numbers each into list. Answers how many, or 2^32 + the number refused
-   (1 to 5, 10), list untouched. */
-uint64_t ltd_listing(uint32_t first, uint32_t last, uint32_t number, uint32_t disability, uint32_t bcd, uint32_t termination,
-                     uint32_t maximum, uint8_t status, uint8_t code, uint8_t cell, int32_t *list, size_t list_len);
+/* The month records of a claim, the 32 bytes of its record, in the window first..last, six numbers each into list. Answers how many, or
+   2^32 + the number refused (1 to 5, 10), list untouched; 2^32 + 255 if claim has fewer than 32 bytes or one of its bytes 23 to 31 is not
+   zero. */
+uint64_t ltd_listing(uint32_t first, uint32_t last, const uint8_t *claim, size_t claim_len, int32_t *list, size_t list_len);
 
 /* The study of a whole claim file. Answers the number refused, or 0. Writes 46 numbers to out: number, block, claim place, first day
    number and last day number of the window, claims taken; then for each group: thirtieths, five closing counts (recovery, death,
    settlement, max-out, limit), expected recoveries, expected deaths. 255 if out is shorter than 46. */
-uint8_t ltd_study(const uint8_t *file, size_t file_len, const uint32_t *rates, size_t rates_len, int64_t *out, size_t out_len);
+uint8_t ltd_file_study(const uint8_t *file, size_t file_len, const uint32_t *rates, size_t rates_len, int64_t *out, size_t out_len);
 
 /* z, m and T of a group into out (3 numbers). Answers 0, or 12. 255 if out is shorter than 3. */
 uint8_t ltd_factor(uint8_t group, uint32_t terminations, int64_t expected, uint64_t *out, size_t out_len);
 
 /* The valuation rate, or 2^32 + the number refused (6, 7, 8, 12). */
-uint64_t ltd_valuation_rate(const uint32_t *rates, size_t rates_len, uint8_t cell, uint64_t t, uint32_t duration);
+uint64_t ltd_valuation_rate(const uint32_t *rates, size_t rates_len, uint32_t cell, uint64_t t, uint32_t duration);
 
 /* The reserve factor into out (1 number), t five numbers. Answers 0 or the number refused (6, 7, 8, 12, 13). 255 if t has not five
    numbers or out none. */
-uint8_t ltd_reserve_factor(const uint32_t *rates, size_t rates_len, uint8_t cell, uint32_t first, const uint64_t *t, size_t t_len,
+uint8_t ltd_reserve_factor(const uint32_t *rates, size_t rates_len, uint32_t cell, uint32_t first, const uint64_t *t, size_t t_len,
                            uint32_t months, double v, double *out, size_t out_len);
 
-/* Reads a block at the number due into out (121 numbers). Block 0: 0, then the window's two dates, the rest untouched. A claim block: the
-   count, then fifteen claims of eight numbers, zeros past the count. Answers 0 or 11. 255 if out is shorter than 121. */
-uint8_t ltd_read_block(const uint8_t *block, size_t block_len, uint32_t due, uint32_t *out, size_t out_len);
+/* Reads a claim block (512 bytes) at the number due into claims (480 bytes): 32 bytes for each claim, its record, the rest untouched.
+   Answers how many claims, or 2^32 + 11 (due 0 is refused too: ltd_read_window reads block 0), claims untouched. 2^32 + 255 if claims is
+   shorter than 480. */
+uint64_t ltd_read_block(const uint8_t *block, size_t block_len, uint32_t due, uint8_t *claims, size_t claims_len);
 
-/* Writes a claim block with the first count claims of claims (eight numbers each) into block (512 bytes). Answers 0 or 11 (a number of
-   0 or above 65,535, a count above 15, a block that has not 512 bytes). 255 if claims is shorter than 8 × count. A status, code or cell
-   above 255 is 255 too. */
-uint8_t ltd_write_block(uint32_t number, uint32_t count, const uint32_t *claims, size_t claims_len, uint8_t *block, size_t block_len);
+/* Writes a claim block of 0 to 15 claims, 32 bytes each, one record after the other, into block (512 bytes). Answers 0 or 11, block
+   untouched: a number of 0 or above 65,535, more than 15 claims, a part of a record at the end, a record whose bytes 23 to 31 are not all
+   zero, a block that has not 512 bytes. */
+uint8_t ltd_write_block(uint32_t number, const uint8_t *claims, size_t claims_len, uint8_t *block, size_t block_len);
 
 /* Writes block 0 with a window's dates into block (512 bytes). Answers 0 or 11. */
 uint8_t ltd_write_window(uint32_t first, uint32_t last, uint8_t *block, size_t block_len);

@@ -1,17 +1,15 @@
 -- Which tests lead to which answer of `ltd_add`, and to what in the list.
 -- Assumes nothing.
 use Prim.Native.Nat.{ℕ}
-use mathlib.Core.Path.{_≡_, refl, sym, ap, _∙_}
+use mathlib.Core.Path.{_≡_, sym, ap, _∙_}
 use mathlib.Core.Bool.{true, false}
 use mathlib.Core.List.{List}
 use lib.IntN.{ℤ}
 use lib.Seq.{sets}
 use borrow.Author.Tests.{eq-eqb, ne-eqb}
 use Rattle.claim_months.specs.declared.Claim.{Claim}
-use Rattle.study.specs.declared.Study.{Study}
 use Rattle.study.specs.declared.Answer.{Answer}
 use Rattle.study.specs.Study.{added}
-use Rattle.claim_file.specs.declared.MaybeClaim.{MaybeClaim}
 use Rattle.claim_file.specs.declared.MaybeClaim.the-variants.{Found, NoRecord}
 use Rattle.claim_file.specs.BlockAnswers.{recordIn}
 use Rattle.basics.proofs.Tests.{tests}

@@ -1,7 +1,7 @@
 -- What the proofs of the calls cite. `Lent`: a lent list that is short or long enough. `StudyForms`: the form of a study. `AddAnswers`: which tests lead to which answer of `ltd_add`. `StudyLists`: the numbers of a
--- run. `Claims`: those of claims.
+-- run. `Records`: records one after another.
 mod Lent
 mod StudyLists
 mod StudyForms
 mod AddAnswers
-mod Claims
+mod Records

@@ -1,16 +1,12 @@
 -- What each call for C and Rust answers, and what each lent list holds at exit, on every input, in terms of the layers below.
 use Prim.Native.Nat.{ℕ, zero, suc, _+_, _*_, _/_, _%_}
-use mathlib.Core.Bool.{Bool, true, _&&_}
 use mathlib.Core.List.{List, [], _∷_, _++_}
-use lib.ListN.{length, getD, set, replicate}
+use lib.ListN.{length}
 use lib.Seq.{sets}
-use lib.Dec.{leb, ltb, eqb}
+use lib.Dec.{ltb, eqb}
 use lib.IntN.{ℤ, pos}
 use Rattle.calendar.specs.declared.Date.{Date}
 use Rattle.basics.specs.Pick.{pick}
-use Rattle.claim_months.specs.declared.Claim.{Claim}
-use Rattle.claim_months.specs.declared.Listed.{Listed}
-use Rattle.claim_months.specs.declared.Listed.the-variants as listed
 use Rattle.valuation.specs.declared.MaybeRate.{MaybeRate}
 use Rattle.valuation.specs.declared.MaybeRate.the-variants as rated
 use Rattle.valuation.specs.declared.MaybeFactor.{MaybeFactor}
@@ -23,11 +19,6 @@ use Rattle.study.specs.declared.Sums.{Sums}
 use Rattle.study.specs.declared.Group.{Group}
 use Rattle.study.specs.Sums.{groupFigures}
 use Rattle.claim_file.specs.declared.FileRun.{FileRun}
-use Rattle.claim_file.specs.declared.Block.{Block}
-use Rattle.claim_file.specs.declared.BlockRead.{BlockRead}
-use Rattle.claim_file.specs.declared.MaybeDates.{MaybeDates}
-use Rattle.claim_file.specs.declared.MaybeDates.the-variants as windowed
-use Rattle.claim_file.specs.BlockAnswers.{noClaim, writeCheck, bytesAfter}
 
 -- a refusal where the answer is a number: 2^32 + the number refused
 abbrev pub refusedNumber : ℕ → ℕ
@@ -37,28 +28,10 @@ refusedNumber n = 4294967296 + n
 unfoldable pub dateIn : ℕ → Date
 dateIn n = record { year = n % 65536; month = n / 65536 % 256; day = n / 16777216 }
 
-unfoldable pub claimIn : ℕ → ℕ → ℕ → ℕ → ℕ → ℕ → ℕ → ℕ → Claim
-claimIn number disability bcd termination maximum status code cell =
-    record {
-      number = number;
-      disability = dateIn disability;
-      bcd = dateIn bcd;
-      termination = dateIn termination;
-      maximum = dateIn maximum;
-      status = status;
-      code = code;
-      cell = cell;
-    }
-
 -- ltd_valuation_rate
 unfoldable pub rateNumber : MaybeRate → ℕ
 rateNumber (rated.Rate r) = r
 rateNumber (rated.Refused n) = refusedNumber n
-
--- ltd_listing
-unfoldable pub listedNumber : Listed → ℕ
-listedNumber (listed.Months n) = n
-listedNumber (listed.Refused n) = refusedNumber n
 
 -- ltd_factor: z, m and T, or the list as it was
 unfoldable pub factorNumber : MaybeFactor → ℕ
@@ -107,62 +80,10 @@ groupsNumbers s (suc n) = groupsNumbers s n ++ groupNumbers (groupFigures s (n +
 unfoldable pub studyNumbers : Study → List ℤ
 studyNumbers s = pos (s .window .first .0) ∷ pos (s .window .last .0) ∷ pos (s .taken) ∷ groupsNumbers (s .sums) 5
 
--- ltd_study: number, block and place of a run, and its study
+-- ltd_file_study: number, block and place of a run, and its study
 unfoldable pub runNumbers : FileRun → List ℤ
 runNumbers r = pos (r .refused) ∷ pos (r .block) ∷ pos (r .place) ∷ studyNumbers (r .study)
 
 -- a date as one number
 unfoldable pub dateNumber : Date → ℕ
 dateNumber d = d .year + 65536 * d .month + 16777216 * d .day
-
--- a claim as eight numbers
-abbrev pub claimDates : Claim → List ℕ
-claimDates c = dateNumber (c .disability) ∷ dateNumber (c .bcd) ∷ dateNumber (c .termination) ∷ dateNumber (c .maximum) ∷ []
-
-unfoldable pub claimNumbers : Claim → List ℕ
-claimNumbers c = c .number ∷ (claimDates c ++ (c .status ∷ c .code ∷ c .cell ∷ []))
-
-unfoldable pub claimsNumbers : List Claim → List ℕ
-claimsNumbers [] = []
-claimsNumbers (c ∷ cs) = claimNumbers c ++ claimsNumbers cs
-
--- ltd_read_block: block 0, and a claim block
-unfoldable pub windowStored : List ℕ → MaybeDates → List ℕ
-windowStored old (windowed.Known w) = sets old 0 (0 ∷ dateNumber (w .first) ∷ dateNumber (w .last) ∷ [])
-windowStored old (windowed.Refused n) = old
-
-unfoldable pub readStored : List ℕ → BlockRead → List ℕ
-readStored old r = pick (eqb (r .refused) 0) (sets old 0 (r .block .count ∷ claimsNumbers (r .block .claims))) old
-
--- ltd_write_block: the claim whose eight numbers start at a place, if status, code and cell are bytes
-unfoldable pub claimAt : List ℕ → ℕ → Claim
-claimAt numbers i =
-    claimIn (getD numbers i 0) (getD numbers (i + 1) 0) (getD numbers (i + 2) 0) (getD numbers (i + 3) 0) (getD numbers (i + 4) 0)
-    (getD numbers (i + 5) 0) (getD numbers (i + 6) 0) (getD numbers (i + 7) 0)
-
-unfoldable pub bytesAt : List ℕ → ℕ → Bool
-bytesAt numbers i = leb (getD numbers (i + 5) 0) 255 && leb (getD numbers (i + 6) 0) 255 && leb (getD numbers (i + 7) 0) 255
-
--- the same of the first n claims
-unfoldable pub allBytes : List ℕ → ℕ → Bool
-allBytes numbers zero = true
-allBytes numbers (suc n) = allBytes numbers n && bytesAt numbers (8 * n)
-
--- fifteen places with the first n claims in them, zeros past them
-unfoldable pub placed : List ℕ → ℕ → List Claim
-placed numbers zero = replicate 15 noClaim
-placed numbers (suc n) = set (placed numbers n) n (claimAt numbers (8 * n))
-
-unfoldable pub blockOf : List ℕ → ℕ → Block
-blockOf numbers count = record { count = count; claims = placed numbers count }
-
--- the numbers lent are those of the claims, each with its three bytes
-unfoldable pub writeAnswer : ℕ → ℕ → List ℕ → List ℕ → ℕ
-writeAnswer number count numbers old =
-    pick (ltb (length numbers) (8 * count)) 255
-    (pick (leb count 15) (pick (allBytes numbers count) (writeCheck number count (length old)) 255) 11)
-
-unfoldable pub writeAfter : ℕ → ℕ → List ℕ → List ℕ → List ℕ
-writeAfter number count numbers old =
-    pick (ltb (length numbers) (8 * count)) old
-    (pick (leb count 15) (pick (allBytes numbers count) (bytesAfter number (blockOf numbers count) old) old) old)

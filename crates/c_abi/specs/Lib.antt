@@ -1,3 +1,4 @@
 -- What the calls for C and Rust answer, and what they leave in the lent lists.
 pub mod Abi
 pub mod StudyCalls
+pub mod RecordCalls

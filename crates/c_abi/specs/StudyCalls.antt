@@ -1,23 +1,20 @@
--- The calls on a study that is a lent list of numbers: ltd_open and ltd_add; and ltd_read_window.
+-- The calls on a study that is a lent list of numbers: ltd_open and ltd_add.
 use Prim.Native.Nat.{ℕ, zero, suc, _+_, _*_, _/_, _%_}
 use mathlib.Core.Bool.{Bool, true, false, _&&_}
-use mathlib.Core.List.{List, [], _∷_}
+use mathlib.Core.List.{List}
 use lib.ListN.{length, getD}
 use lib.Seq.{sets}
 use lib.Dec.{leb, eqb}
 use lib.IntN.{ℤ, pos, negsuc, natAbs}
 use Rattle.basics.specs.Pick.{pick}
 use Rattle.basics.specs.Tables.{table}
-use Rattle.claim_months.specs.declared.Claim.{Claim}
 use Rattle.study.specs.declared.Study.{Study}
 use Rattle.study.specs.declared.Answer.{Answer}
-use Rattle.study.specs.Study.{opened, added}
+use Rattle.study.specs.Study.{added}
 use Rattle.claim_file.specs.declared.MaybeClaim.{MaybeClaim}
 use Rattle.claim_file.specs.declared.MaybeClaim.the-variants.{Found, NoRecord}
-use Rattle.claim_file.specs.declared.MaybeDates.{MaybeDates}
-use Rattle.claim_file.specs.declared.MaybeDates.the-variants.{Known, Refused}
-use Rattle.claim_file.specs.BlockAnswers.{recordIn, windowOf}
-use Rattle.c_abi.specs.Abi.{dateIn, dateNumber, studyNumbers, answered, stored}
+use Rattle.claim_file.specs.BlockAnswers.{recordIn}
+use Rattle.c_abi.specs.Abi.{studyNumbers}
 
 -- a number of 32 bits: 0 to 2³² − 1
 unfoldable pub isWord : ℤ → Bool
@@ -64,12 +61,3 @@ addAnswer xs claim rates = pick (studyForm xs) (addedTo (studyIn xs) (recordIn c
 unfoldable pub addAfter : List ℤ → List ℕ → List ℕ → List ℤ
 addAfter xs claim rates =
     pick (eqb (addAnswer xs claim rates) 0) (sets xs 0 (studyNumbers (addedTo (studyIn xs) (recordIn claim 0) rates .study))) xs
-
--- ltd_read_window: the two dates as numbers, or the list as it was
-unfoldable pub windowNumber : MaybeDates → ℕ
-windowNumber (Known w) = 0
-windowNumber (Refused n) = n
-
-unfoldable pub datesStored : List ℕ → MaybeDates → List ℕ
-datesStored old (Known w) = sets old 0 (dateNumber (w .first) ∷ dateNumber (w .last) ∷ [])
-datesStored old (Refused n) = old

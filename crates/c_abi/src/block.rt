@@ -1,20 +1,24 @@
-// The calls that read and write blocks.
+// The calls that read and write blocks. A claim is the record of a claim file.
 ghost use mathlib.Core.Path.{_≡_};
-ghost use mathlib.Core.Bool.{true};
-ghost use Prim.Native.Nat.{_+_, _*_, _≤_};
+ghost use Prim.Native.Nat.{_*_, _≤_};
 ghost use denote.Ref.{now};
 ghost use lib.Dec.{eqb};
-ghost use lib.ListN.{length};
+ghost use lib.ListN.{length, take};
 ghost use lib.Seq.{sets};
 ghost use Rattle.basics.specs.Pick.{pick};
-ghost use Rattle.claim_file.specs.BlockAnswers.{noClaim, blockCheck, windowOf, readOf, windowAfter};
-ghost use Rattle.c_abi.specs.StudyCalls.{windowNumber, datesStored};
-ghost use Rattle.c_abi.specs.Abi.{dateIn, dateNumber, claimDates, claimNumbers, claimsNumbers, windowStored, readStored, claimAt, bytesAt, allBytes, placed, writeAnswer, writeAfter, answered, stored};
-use crate::listing::claim_in;
+ghost use Rattle.claim_file.specs.Record.{allClaimBytes};
+ghost use Rattle.claim_file.specs.BlockAnswers.{recordIn, windowOf, windowAfter};
+ghost use Rattle.c_abi.specs.Abi.{dateIn, dateNumber, answered, stored};
+ghost use Rattle.c_abi.specs.RecordCalls.{readAnswer, readAfter, isRecord, allRecords, claimOr, placed, writeAnswer, writeAfter, windowNumber, datesStored};
 use crate::listing::date_in;
+use basics::refusal;
 use calendar::Date;
 use claim_file::Block;
+use claim_file::MaybeClaim;
 use claim_file::MaybeDates;
+use claim_file::record::no_claim;
+use claim_file::record::read_record;
+use claim_file::record::write_record;
 use claim_months::Claim;
 
 // A date as one number.
@@ -24,93 +28,33 @@ fn date_number(date: Date) -> u32
     date.year as u32 + 65536 * date.month as u32 + 16777216 * date.day as u32
 }
 
-// A byte as a number.
-fn wide(byte: u8) -> u32
-    ensures { λ r. ⌜ r ≡ byte ⌝ }
+// Stores the records of a block's claims from the first byte on.
+fn put_records(block: Block, claims: &mut [u8])
+    requires { ⌜ 480 ≤ length (now claims) ⌝ }
+    requires { ⌜ block .count ≤ 15 ⌝ }
+    ensures { λ _. ⌜ now (claims .exit) ≡ sets (now (claims .entry)) 0 (allClaimBytes (take (block .count) (block .claims))) ⌝ }
 {
-    byte as u32
-}
-
-// Stores the numbers of a claim's four dates.
-fn put_dates(claim: Claim, at: usize, out: &mut [u32])
-    requires { ⌜ at + 4 ≤ length (now out) ⌝ }
-    ensures { λ _. ⌜ now (out .exit) ≡ sets (now (out .entry)) at (claimDates claim) ⌝ }
-{
-    out[at] = date_number(claim.disability);
-    out[at + 1] = date_number(claim.bcd);
-    out[at + 2] = date_number(claim.termination);
-    out[at + 3] = date_number(claim.maximum);
-}
-
-// Stores the eight numbers of a claim.
-fn put_claim(claim: Claim, at: usize, out: &mut [u32])
-    requires { ⌜ at + 8 ≤ length (now out) ⌝ }
-    ensures { λ _. ⌜ now (out .exit) ≡ sets (now (out .entry)) at (claimNumbers claim) ⌝ }
-{
-    out[at] = claim.number;
-    put_dates(claim, at + 1, out);
-    out[at + 5] = wide(claim.status);
-    out[at + 6] = wide(claim.code);
-    out[at + 7] = wide(claim.cell);
-}
-
-// Stores the numbers of the fifteen claims.
-fn put_claims(claims: [Claim; 15], out: &mut [u32])
-    requires { ⌜ 121 ≤ length (now out) ⌝ }
-    ensures { λ _. ⌜ now (out .exit) ≡ sets (now (out .entry)) 1 (claimsNumbers claims) ⌝ }
-{
-    for place in 0..15 {
-        put_claim(claims[place], 1 + 8 * place, out);
+    for place in 0..block.count as usize {
+        write_record(block.claims[place], 32 * place, claims);
     }
 }
 
-// Reads block 0.
-fn read_window(block: &[u8], out: &mut [u32]) -> u8
-    requires { ⌜ 121 ≤ length (now out) ⌝ }
-    ensures { λ r. ⌜ r ≡ blockCheck 0 (now (block .entry)) ⌝ }
-    ensures { λ _. ⌜ now (out .exit) ≡ windowStored (now (out .entry)) (windowOf (now (block .entry))) ⌝ }
-{
-    match claim_file::blocks::read_window(block) {
-        MaybeDates::Known(window) => {
-            out[0] = 0;
-            out[1] = date_number(window.first);
-            out[2] = date_number(window.last);
-            0
-        }
-        MaybeDates::Refused(number) => number,
-    }
-}
-
-// Reads a claim block.
-fn read_claims(block: &[u8], due: u32, out: &mut [u32]) -> u8
-    requires { ⌜ 121 ≤ length (now out) ⌝ }
-    ensures { λ r. ⌜ r ≡ readOf due (now (block .entry)) .refused ⌝ }
-    ensures { λ _. ⌜ now (out .exit) ≡ readStored (now (out .entry)) (readOf due (now (block .entry))) ⌝ }
-{
-    let read = claim_file::blocks::read(block, due);
-    let found = read.block;
-    let claims = found.claims;
-    if read.refused != 0 {
-        return read.refused;
-    }
-    out[0] = found.count as u32;
-    put_claims(claims, out);
-    0
-}
-
-// Reads a block at the number due.
+// Reads a claim block at the number due: how many claims, or 2^32 + the number refused.
 #[no_mangle]
-pub extern "C" fn ltd_read_block(block: &[u8], due: u32, out: &mut [u32]) -> u8
-    ensures { λ r. ⌜ r ≡ answered 121 (now (out .entry)) (blockCheck due (now (block .entry))) ⌝ }
-    ensures { λ _. ⌜ now (out .exit) ≡ stored 121 (now (out .entry)) (pick (eqb due 0) (windowStored (now (out .entry)) (windowOf (now (block .entry)))) (readStored (now (out .entry)) (readOf due (now (block .entry))))) ⌝ }
+pub extern "C" fn ltd_read_block(block: &[u8], due: u32, claims: &mut [u8]) -> u64
+    ensures { λ r. ⌜ r ≡ readAnswer due (now (block .entry)) (now (claims .entry)) ⌝ }
+    ensures { λ _. ⌜ now (claims .exit) ≡ readAfter due (now (block .entry)) (now (claims .entry)) ⌝ }
 {
-    if out.len() < 121 {
-        return 255;
+    if claims.len() < 480 {
+        return 4294967551;
     }
-    if due == 0 {
-        return read_window(block, out);
+    let read = claim_file::blocks::read(block, due);
+    if read.refused != 0 {
+        return 4294967296 + read.refused as u64;
     }
-    read_claims(block, due, out)
+    let found = read.block;
+    put_records(found, claims);
+    found.count as u64
 }
 
 // Reads the dates of block 0's window.
@@ -132,104 +76,69 @@ pub extern "C" fn ltd_read_window(block: &[u8], dates: &mut [u32]) -> u8
     }
 }
 
-// The claim whose eight numbers start at a place.
-fn claim_at(numbers: &[u32], at: usize) -> Claim
-    requires { ⌜ at + 8 ≤ length (now numbers) ⌝ }
-    requires { ⌜ bytesAt (now numbers) at ≡ true ⌝ }
-    ensures { λ r. ⌜ r ≡ claimAt (now (numbers .entry)) at ⌝ }
+// Whether a record stands at a byte.
+fn is_record(bytes: &[u8], at: usize) -> bool
+    ensures { λ r. ⌜ r ≡ isRecord (recordIn (now (bytes .entry)) at) ⌝ }
 {
-    claim_in(
-        numbers[at],
-        numbers[at + 1],
-        numbers[at + 2],
-        numbers[at + 3],
-        numbers[at + 4],
-        numbers[at + 5] as u8,
-        numbers[at + 6] as u8,
-        numbers[at + 7] as u8,
-    )
+    match read_record(bytes, at) {
+        MaybeClaim::Found(_) => true,
+        MaybeClaim::NoRecord => false,
+    }
 }
 
-// Whether status, code and cell are bytes.
-fn bytes_at(numbers: &[u32], at: usize) -> bool
-    requires { ⌜ at + 8 ≤ length (now numbers) ⌝ }
-    ensures { λ r. ⌜ r ≡ bytesAt (now (numbers .entry)) at ⌝ }
+// The claim whose record stands at a byte, or a claim of zeros.
+fn claim_or_none(bytes: &[u8], at: usize) -> Claim
+    ensures { λ r. ⌜ r ≡ claimOr (recordIn (now (bytes .entry)) at) ⌝ }
 {
-    if numbers[at + 5] > 255 {
-        return false;
+    match read_record(bytes, at) {
+        MaybeClaim::Found(claim) => claim,
+        MaybeClaim::NoRecord => no_claim(),
     }
-    if numbers[at + 6] > 255 {
-        return false;
-    }
-    numbers[at + 7] <= 255
 }
 
-// The same of the first claims.
-fn all_bytes(numbers: &[u32], count: u32) -> bool
-    requires { ⌜ 8 * count ≤ length (now numbers) ⌝ }
-    ensures { λ r. ⌜ r ≡ allBytes (now (numbers .entry)) count ⌝ }
+// Whether the first records are records.
+fn all_records(bytes: &[u8], count: u8) -> bool
+    ensures { λ r. ⌜ r ≡ allRecords (now (bytes .entry)) count ⌝ }
 {
     let mut left = count as usize;
     while left > 0 {
         left -= 1;
-        if !bytes_at(numbers, 8 * left) {
+        if !is_record(bytes, 32 * left) {
             return false;
         }
     }
     true
 }
 
-// A claim of zeros.
-fn no_claim() -> Claim
-    ensures { λ r. ⌜ r ≡ noClaim ⌝ }
-{
-    let none = Date {
-        year: 0,
-        month: 0,
-        day: 0,
-    };
-    Claim {
-        number: 0,
-        disability: none,
-        bcd: none,
-        termination: none,
-        maximum: none,
-        status: 0,
-        code: 0,
-        cell: 0,
-    }
-}
-
-// The fifteen places of a block, with the first claims in them.
-fn placed(numbers: &[u32], count: u8) -> [Claim; 15]
-    requires { ⌜ 8 * count ≤ length (now numbers) ⌝ }
+// The fifteen places of a block, with the claims of the first records in them.
+fn placed(bytes: &[u8], count: u8) -> [Claim; 15]
     requires { ⌜ count ≤ 15 ⌝ }
-    requires { ⌜ allBytes (now numbers) count ≡ true ⌝ }
-    ensures { λ r. ⌜ r ≡ placed (now (numbers .entry)) count ⌝ }
+    ensures { λ r. ⌜ r ≡ placed (now (bytes .entry)) count ⌝ }
 {
     let mut claims = [no_claim(); 15];
     for place in 0..count {
-        claims[place as usize] = claim_at(numbers, 8 * place as usize);
+        claims[place as usize] = claim_or_none(bytes, 32 * place as usize);
     }
     claims
 }
 
-// Writes a claim block.
+// Writes a claim block of the records lent.
 #[no_mangle]
-pub extern "C" fn ltd_write_block(number: u32, count: u32, claims: &[u32], block: &mut [u8]) -> u8
-    ensures { λ r. ⌜ r ≡ writeAnswer number count (now (claims .entry)) (now (block .entry)) ⌝ }
-    ensures { λ _. ⌜ now (block .exit) ≡ writeAfter number count (now (claims .entry)) (now (block .entry)) ⌝ }
+pub extern "C" fn ltd_write_block(number: u32, claims: &[u8], block: &mut [u8]) -> u8
+    ensures { λ r. ⌜ r ≡ writeAnswer number (now (claims .entry)) (now (block .entry)) ⌝ }
+    ensures { λ _. ⌜ now (block .exit) ≡ writeAfter number (now (claims .entry)) (now (block .entry)) ⌝ }
 {
-    if claims.len() < 8 * count as usize {
-        return 255;
+    let records = claims.len() / 32;
+    if claims.len() % 32 != 0 {
+        return refusal::BLOCK;
     }
-    if count > 15 {
-        return 11;
+    if records > 15 {
+        return refusal::BLOCK;
     }
-    if !all_bytes(claims, count) {
-        return 255;
+    let count = records as u8;
+    if !all_records(claims, count) {
+        return refusal::BLOCK;
     }
-    let count = count as u8;
     let places = placed(claims, count);
     let written = Block {
         count,

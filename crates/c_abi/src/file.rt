@@ -10,7 +10,7 @@ use crate::study_list::signed;
 
 // The study of a whole claim file.
 #[no_mangle]
-pub extern "C" fn ltd_study(file: &[u8], rates: &[u32], out: &mut [i64]) -> u8
+pub extern "C" fn ltd_file_study(file: &[u8], rates: &[u32], out: &mut [i64]) -> u8
     ensures { λ r. ⌜ r ≡ answered 46 (now (out .entry)) (fileRun (now (rates .entry)) (now (file .entry)) .refused) ⌝ }
     ensures { λ _. ⌜ now (out .exit) ≡ stored 46 (now (out .entry)) (sets (now (out .entry)) 0 (runNumbers (fileRun (now (rates .entry)) (now (file .entry))))) ⌝ }
 {

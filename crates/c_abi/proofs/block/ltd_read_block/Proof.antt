@@ -1,69 +1,64 @@
--- `ltd_read_block` meets its contract: the number due picks the kind of block. Assumes nothing.
-use mathlib.Core.Path.{_≡_, refl, sym, ap, _∙_}
-use Prim.Native.Nat.{ℕ, _≤_}
-use mathlib.Core.List.{List, []}
+-- `ltd_read_block` meets its contract: a short list and a refusal leave the list, and else the records are stored. Assumes nothing.
+use mathlib.Core.Path.{_≡_, sym, subst}
+use Prim.Native.Nat.{ℕ, _+_, _≤_, _<_}
+use mathlib.Core.List.{List}
 use native.Mathlib.Omega.{arith}
-use lib.ListN.{length}
-use lib.Dec.{eqb}
-use borrow.Author.Tests.{eq-eqb, ne-eqb, le-leb}
-use Rattle.basics.specs.Pick.{pick}
-use Rattle.basics.proofs.Tests.{by}
-use Rattle.claim_file.specs.declared.BlockRead.{BlockRead}
-use Rattle.claim_file.specs.Block.{claimCount, claimBlock, blockSound}
-use Rattle.claim_file.specs.BlockAnswers.{claimsIn, windowOf, readOf, blockCheck}
-use Rattle.c_abi.specs.Abi.{windowStored, readStored, answered, stored}
-use Rattle.c_abi.proofs.Lent.{short, long}
+use lib.ListN.{length, take}
+use lib.Seq.{sets}
 use borrow.Author.Needs.{needs}
+use borrow.Author.Tests.{lt-ltb, le-ltb, eq-eqb, ne-eqb}
+use Rattle.claim_file.specs.declared.BlockRead.{BlockRead}
+use Rattle.claim_file.specs.Record.{allClaimBytes}
+use Rattle.claim_file.specs.BlockAnswers.{readOf}
+use Rattle.claim_file.proofs.Reading.{read-count}
+use Rattle.c_abi.specs.RecordCalls.{readNumber, readStored, readAnswer, readAfter}
 use Rattle.c_abi.proofs.block.ltd_read_block.Statement.{statement}
 use Rattle.c_abi.proofs.block.ltd_read_block.Tie as tie
 
--- what the number due picks
-module _ (due : ℕ) (bytes old : List ℕ) (h : 121 ≤ length old) where
-  after : List ℕ
-  after = pick (eqb due 0) (windowStored old (windowOf bytes)) (readStored old (readOf due bytes))
+few : (due : ℕ) (bytes : List ℕ) (m : BlockRead) → m ≡ readOf due bytes → m .block .count ≤ 15
+few due bytes m e = subst (λ (r : BlockRead). r .block .count ≤ 15) (sym e) (read-count due bytes)
 
-  zero : (r : ℕ) (l : List ℕ) → due ≡ 0 → r ≡ blockCheck 0 bytes → l ≡ windowStored old (windowOf bytes)
-      → (r ≡ answered 121 old (blockCheck due bytes)) × (l ≡ stored 121 old after)
-  unfolding after
-  zero r l z p q =
-      long 121 old (blockCheck due bytes) _ r l h (p ∙ ap (λ (d : ℕ). blockCheck d bytes) (sym z)) (rw (eq-eqb due 0 z) q)
+module _ (due : ℕ) (bytes old : List ℕ) where
+  short-list : length old < 480 → (4294967551 ≡ readAnswer due bytes old) × (old ≡ readAfter due bytes old)
+  unfolding readAnswer readAfter
+  short-list h = let t = lt-ltb (length old) 480 h in (rw t, rw t)
 
-  -- the number refused by reading is that of the check
-  checked : (due ≡ 0 → ⊥) → readOf due bytes .refused ≡ blockCheck due bytes
-  unfolding readOf blockCheck blockSound
-  checked z =
-      rw (ne-eqb due 0 z, le-leb 1 due (omega arith))
-      (by (claimBlock due bytes)
-      (λ t.
-      pick {A = BlockRead} t (record { refused = 0; block = record { count = claimCount bytes; claims = claimsIn bytes 0 15 } })
-      (record { refused = 11; block = record { count = 0; claims = claimsIn [] 0 15 } }) .refused
-      ≡ pick t 0 11) (λ e. refl) (λ e. refl))
+  -- a reading is that of the block
+  module _ (m : BlockRead) (e : m ≡ readOf due bytes) where
+    kept : 480 ≤ length old → (m .refused ≡ 0 → ⊥) → (4294967296 + m .refused ≡ readAnswer due bytes old) × (old ≡ readAfter due bytes old)
+    unfolding readAnswer readAfter readNumber readStored
+    kept h z = let t = le-ltb (length old) 480 h in let u = ne-eqb (m .refused) 0 z in (rw (t, ← e, u), rw (t, ← e, u))
 
-  more : (r : ℕ) (l : List ℕ) → (due ≡ 0 → ⊥) → r ≡ readOf due bytes .refused → l ≡ readStored old (readOf due bytes)
-      → (r ≡ answered 121 old (blockCheck due bytes)) × (l ≡ stored 121 old after)
-  unfolding after
-  more r l z p q = long 121 old (blockCheck due bytes) _ r l h (p ∙ checked z) (rw (ne-eqb due 0 z) q)
+    read : (l : List ℕ) → 480 ≤ length old → m .refused ≡ 0 → l ≡ sets old 0 (allClaimBytes (take (m .block .count) (m .block .claims)))
+        → (m .block .count ≡ readAnswer due bytes old) × (l ≡ readAfter due bytes old)
+    unfolding readAnswer readAfter readNumber readStored
+    read l h z q = let t = le-ltb (length old) 480 h in let u = eq-eqb (m .refused) 0 z in (rw (t, ← e, u), rw (t, ← e, u) q)
 
 returns : tie.Need-returns
-returns c = short 121 _ _ _ (c .if1 .taken)
+returns c = let s = c .before .before .before .args in short-list (s .due) (s .block .now) (s .claims .now) (omega arith)
 
 returns-2 : tie.Need-returns-2
-unfolding after
 returns-2 c =
-    let w = c .before .before in
-    let i = w .before .before in
-    let s = i .before .before .before .before .args in
-    zero (s .due) (s .block .now) (s .out .now) (i .before .if1 .left) _ _ (i .if2 .taken) (w .read-window .ensures .0) (w .read-window .ensures .1)
+    let i = c .before in
+    let r = i .before .before in
+    let s = r .before .before .before .before .args in
+    kept (s .due) (s .block .now) (s .claims .now) (r .read .result) (r .read .ensures) (omega arith) (λ z. omega arith)
+
+put-records-requires : tie.Need-put-records-requires
+put-records-requires c κs =
+    let r = c .before .before .before .before in
+    (omega arith, few _ _ _ (r .read .ensures))
 
 returns-3 : tie.Need-returns-3
-unfolding after
 returns-3 c =
-    let w = c .before .before in
-    let i = w .before .before in
-    let s = i .before .before .before .before .args in
-    more (s .due) (s .block .now) (s .out .now) (i .before .if1 .left) _ _ (i .if2 .left) (w .read-claims .ensures .0) (w .read-claims .ensures .1)
+    let p = c .before .before .before in
+    let i = p .before .before .before in
+    let r = i .before .before in
+    let s = r .before .before .before .before .args in
+    read (s .due) (s .block .now) (s .claims .now) (r .read .result) (r .read .ensures) _ (omega arith) (omega arith) (p .put-records .ensures)
 
 pub ltd-read-block-spec : {M : Type 1} → statement M
 ltd-read-block-spec =
     tie.close
-    (tie.spec returns (λ c κs. search needs) (λ c. search needs) returns-2 (λ c κs. search needs) (λ c. search needs) returns-3)
+    (tie.spec returns (λ c κs. search needs) (λ c. search needs) (λ c. search needs) returns-2 put-records-requires (λ c. search needs)
+    (λ c. search needs) returns-3)

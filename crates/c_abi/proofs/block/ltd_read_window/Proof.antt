@@ -3,13 +3,13 @@ use Prim.Native.Nat.{ℕ, _≤_}
 use mathlib.Core.Path.{_≡_, sym, ap, _∙_}
 use mathlib.Core.List.{List}
 use native.Mathlib.Omega.{arith}
-use lib.ListN.{length, set, length-set}
+use lib.ListN.{length, set}
 use borrow.Author.Needs.{needs}
 use Rattle.claim_file.specs.declared.WindowDates.{WindowDates}
 use Rattle.claim_file.specs.declared.MaybeDates.{MaybeDates}
 use Rattle.claim_file.specs.declared.MaybeDates.the-variants.{Known, Refused}
 use Rattle.c_abi.specs.Abi.{dateNumber, answered, stored}
-use Rattle.c_abi.specs.StudyCalls.{windowNumber, datesStored}
+use Rattle.c_abi.specs.RecordCalls.{windowNumber, datesStored}
 use Rattle.c_abi.proofs.Lent.{short, long}
 use Rattle.c_abi.proofs.block.ltd_read_window.Statement.{statement}
 use Rattle.c_abi.proofs.block.ltd_read_window.Tie as tie
@@ -26,21 +26,21 @@ module _ (old : List ℕ) (m a : MaybeDates) (h : 2 ≤ length old) (e : m ≡ a
   refused n k = long 2 old _ _ _ _ h (ap windowNumber (sym k ∙ e)) (ap (datesStored old) (sym k ∙ e))
 
 returns : tie.Need-returns
-returns c = short 2 _ _ _ (c .if1 .taken)
+returns c = short 2 (c .before .before .before .args .dates .now) _ _ (omega arith)
 
 returns-2 : tie.Need-returns-2
 returns-2 c =
     let d1 = c .before in
     let w = d1 .before .before in
     let r = w .before .before in
-    known (r .before .before .before .before .args .dates .now) _ _ (r .before .if1 .left) (r .read-window .ensures) _ _ _ (d1 .date-number .ensures)
+    known (r .before .before .before .before .args .dates .now) _ _ (omega arith) (r .read-window .ensures) (w .window .given .0 .0) _ _ (d1 .date-number .ensures)
     (c .date-number2 .ensures) (w .window .given .1)
 
 returns-3 : tie.Need-returns-3
 returns-3 c =
     let d = c .before in
     let r = d .before .before in
-    refused (r .before .before .before .before .args .dates .now) _ _ (r .before .if1 .left) (r .read-window .ensures) _ (d .number .given .1)
+    refused (r .before .before .before .before .args .dates .now) _ _ (omega arith) (r .read-window .ensures) _ (d .number .given .1)
 
 pub ltd-read-window-spec : {M : Type 1} → statement M
 ltd-read-window-spec =

@@ -1,78 +1,74 @@
 -- `ltd_write_block` meets its contract: each return by the tests that led there. Assumes nothing.
 use mathlib.Core.Path.{_≡_, refl, sym, ap, _∙_}
-use Prim.Native.Nat.{ℕ, _*_, _≤_, _<_}
-use mathlib.Core.Bool.{true, false}
+use Prim.Native.Nat.{ℕ, _/_, _%_}
+use mathlib.Core.Bool.{Bool, true, false, _&&_}
 use mathlib.Core.List.{List}
+use native.Mathlib.Omega.{arith}
+use lib.Dec.{leb, eqb}
 use lib.ListN.{length}
-use borrow.Author.Tests.{lt-ltb, le-ltb, le-leb, lt-leb, not-true, not-false}
+use borrow.Author.Needs.{needs}
+use borrow.Author.Tests.{eq-eqb, ne-eqb, le-leb, lt-leb, not-true, not-false}
+use Rattle.basics.specs.Checks.{_then_}
 use Rattle.claim_file.specs.declared.Block.{Block}
 use Rattle.claim_file.specs.BlockAnswers.{writeCheck, bytesAfter}
-use Rattle.c_abi.specs.Abi.{allBytes, placed, blockOf, writeAnswer, writeAfter}
-use borrow.Author.Needs.{needs}
+use Rattle.c_abi.specs.RecordCalls.{allRecords, recordCount, recordsForm, blockOf, writeAnswer, writeAfter}
 use Rattle.c_abi.proofs.block.ltd_write_block.Statement.{statement}
 use Rattle.c_abi.proofs.block.ltd_write_block.Tie as tie
 
-module _ (number count : ℕ) (numbers old : List ℕ) where
-  short-claims : length numbers < 8 * count → (255 ≡ writeAnswer number count numbers old) × (old ≡ writeAfter number count numbers old)
-  unfolding writeAnswer writeAfter
-  short-claims h = let t = lt-ltb (length numbers) (8 * count) h in (rw t refl, rw t refl)
+form-is : (claims : List ℕ) {a b d : Bool} → eqb (length claims % 32) 0 ≡ a → leb (length claims / 32) 15 ≡ b
+    → allRecords claims (length claims / 32) ≡ d → recordsForm claims ≡ (a && b && d)
+unfolding recordsForm recordCount
+form-is claims p q r = λ i. p i && q i && r i
 
-  module _ (long : 8 * count ≤ length numbers) where
-    too-many : 15 < count → (11 ≡ writeAnswer number count numbers old) × (old ≡ writeAfter number count numbers old)
-    unfolding writeAnswer writeAfter
-    too-many h =
-        let t = le-ltb (length numbers) (8 * count) long in
-        let u = lt-leb count 15 h in
-        (rw (t, u) refl, rw (t, u) refl)
+module _ (number : ℕ) (claims old : List ℕ) where
+  refused : recordsForm claims ≡ false → (11 ≡ writeAnswer number claims old) × (old ≡ writeAfter number claims old)
+  unfolding writeAnswer writeAfter _then_
+  refused e = (rw e, rw e)
 
-    module _ (few : count ≤ 15) where
-      no-bytes : allBytes numbers count ≡ false → (255 ≡ writeAnswer number count numbers old) × (old ≡ writeAfter number count numbers old)
-      unfolding writeAnswer writeAfter
-      no-bytes h =
-          let t = le-ltb (length numbers) (8 * count) long in
-          let u = le-leb count 15 few in
-          (rw (t, u, h) refl, rw (t, u, h) refl)
-
-      written : (r : ℕ) (l : List ℕ) (b : Block) → allBytes numbers count ≡ true → b ≡ blockOf numbers count
-          → r ≡ writeCheck number (b .count) (length old) → l ≡ bytesAfter number b old
-          → (r ≡ writeAnswer number count numbers old) × (l ≡ writeAfter number count numbers old)
-      unfolding writeAnswer writeAfter blockOf
-      written r l b h e p q =
-          let t = le-ltb (length numbers) (8 * count) long in
-          let u = le-leb count 15 few in
-          (rw (t, u, h) (p ∙ ap (λ (k : Block). writeCheck number (k .count) (length old)) e), rw (t, u, h) (q ∙ ap (λ (k : Block). bytesAfter number k old) e))
+  written : (r : ℕ) (l : List ℕ) (b : Block) → recordsForm claims ≡ true → b ≡ blockOf claims
+      → r ≡ writeCheck number (b .count) (length old) → l ≡ bytesAfter number b old
+      → (r ≡ writeAnswer number claims old) × (l ≡ writeAfter number claims old)
+  unfolding writeAnswer writeAfter blockOf _then_
+  written r l b f e p q = (
+    rw f (p ∙ ap (λ (k : Block). writeCheck number (k .count) (length old)) e),
+    rw f (q ∙ ap (λ (k : Block). bytesAfter number k old) e),
+  )
 
 returns : tie.Need-returns
-returns c = short-claims _ _ _ _ (c .if1 .taken)
+returns c =
+    let s = c .before .before .before .args in
+    refused (s .number) (s .claims .now) (s .block .now) (form-is (s .claims .now) (ne-eqb (length (s .claims .now) % 32) 0 (λ z. omega arith)) refl refl)
 
 returns-2 : tie.Need-returns-2
-returns-2 c = too-many _ _ _ _ (c .before .if1 .left) (c .if2 .taken)
+returns-2 c =
+    let s = c .before .before .before .before .args in
+    refused (s .number) (s .claims .now) (s .block .now)
+    (form-is (s .claims .now) (eq-eqb (length (s .claims .now) % 32) 0 (omega arith)) (lt-leb (length (s .claims .now) / 32) 15 (omega arith)) refl)
 
 returns-3 : tie.Need-returns-3
 returns-3 c =
     let a = c .before in
-    no-bytes _ _ _ _ (a .before .before .if1 .left) (a .before .if2 .left) (sym (a .all-bytes .ensures) ∙ not-true _ (c .if3 .taken))
-
-placed-requires : tie.Need-placed-requires
-placed-requires c κs =
-    let a = c .before in
-    (a .before .before .if1 .left, (a .before .if2 .left, sym (a .all-bytes .ensures) ∙ not-false _ (c .if3 .left)))
+    let s = a .before .before .before .before .before .args in
+    refused (s .number) (s .claims .now) (s .block .now)
+    (form-is (s .claims .now) (eq-eqb (length (s .claims .now) % 32) 0 (omega arith)) (le-leb (length (s .claims .now) / 32) 15 (omega arith))
+    (sym (a .all-records .ensures) ∙ not-true _ (c .if3 .taken)))
 
 returns-4 : tie.Need-returns-4
-unfolding blockOf
+unfolding blockOf recordCount
 returns-4 c =
     let w = c .before .before in
     let p = w .before .before in
     let i = p .before in
     let a = i .before in
     let s = a .before .before .before .before .before .args in
-    written (s .number) (s .count) (s .claims .now) (s .block .now) (a .before .before .if1 .left) (a .before .if2 .left) _ _ _
-    (sym (a .all-bytes .ensures) ∙ not-false _ (i .if3 .left))
-    (λ j. record { count = s .count; claims = p .placed .ensures j })
+    written (s .number) (s .claims .now) (s .block .now) _ _ _
+    (form-is (s .claims .now) (eq-eqb (length (s .claims .now) % 32) 0 (omega arith)) (le-leb (length (s .claims .now) / 32) 15 (omega arith))
+    (sym (a .all-records .ensures) ∙ not-false _ (i .if3 .left)))
+    (λ j. record { count = length (s .claims .now) / 32; claims = p .placed .ensures j })
     (w .write .ensures .0) (w .write .ensures .1)
 
 pub ltd-write-block-spec : {M : Type 1} → statement M
 ltd-write-block-spec =
     tie.close
-    (tie.spec (λ c. search needs) returns returns-2 (λ c κs. search needs) returns-3 (λ c. search needs) placed-requires (λ c κs. search needs)
+    (tie.spec returns returns-2 (λ c. search needs) (λ c κs. search needs) returns-3 (λ c κs. search needs) (λ c κs. search needs)
     (λ c. search needs) returns-4)

@@ -5,23 +5,23 @@ use Prim.Native.Nat.{ℕ, suc, _+_, _*_, _-_, _≤_}
 use mathlib.Core.List.{List}
 use lib.ListN.{set, replicate}
 use Rattle.claim_months.specs.declared.Claim.{Claim}
-use Rattle.c_abi.specs.Abi.{claimAt, placed}
-use Rattle.c_abi.proofs.Claims.{bytes-all}
+use Rattle.claim_file.specs.BlockAnswers.{recordIn}
+use Rattle.c_abi.specs.RecordCalls.{claimOr, placed}
 use Rattle.c_abi.proofs.block.placed.Statement.{statement}
 use Rattle.c_abi.proofs.block.placed.Tie as tie
 
-more : (numbers : List ℕ) (n : ℕ) (claims : List Claim) (k : Claim) → k ≡ claimAt numbers (8 * n) → claims ≡ placed numbers n
-    → set claims n k ≡ placed numbers (n + 1)
+more : (bytes : List ℕ) (n : ℕ) (claims : List Claim) (k : Claim) → k ≡ claimOr (recordIn bytes (32 * n)) → claims ≡ placed bytes n
+    → set claims n k ≡ placed bytes (n + 1)
 unfolding placed
-more numbers n claims k e q =
+more bytes n claims k e q =
     let s : suc n ≡ n + 1 = omega arith in
-    (λ i. set (q i) n (e i)) ∙ ap (placed numbers) s
+    (λ i. set (q i) n (e i)) ∙ ap (placed bytes) s
 
 abbrev Inv-loop : tie.InvT-loop
-Inv-loop numbers count claims₀ place₀ claims place = (place ≤ count) × (claims ≡ placed numbers place)
+Inv-loop bytes count claims₀ place₀ claims place = (place ≤ count) × (claims ≡ placed bytes place)
 
 abbrev μ-loop : tie.MeasureT-loop
-μ-loop numbers count claims₀ place₀ claims place = count - place
+μ-loop bytes count claims₀ place₀ claims place = count - place
 
 no-claim-requires : tie.Need-no-claim-requires Inv-loop μ-loop
 no-claim-requires c κs = tt
@@ -30,15 +30,10 @@ loop-holds : tie.Need-loop-holds Inv-loop μ-loop
 unfolding placed
 loop-holds c = (omega arith, ap (λ (k : Claim). replicate 15 k) (c .no-claim .ensures))
 
-claim-at-requires : tie.Need-claim-at-requires Inv-loop μ-loop
-claim-at-requires c κs =
-    let s = c .before .before .before .before in
-    (omega arith, bytes-all (s .args .numbers .now) (s .args .count) (s .pre .1 .1) (c .before .loop .place) (omega arith))
-
 loop-again : tie.Need-loop-again Inv-loop μ-loop
 loop-again c =
     let l = c .before .before .loop in
-    (omega arith, more _ (l .place) (l .claims) _ (c .claim-at .ensures) (l .inv .1))
+    (omega arith, more _ (l .place) (l .claims) _ (c .claim-or-none .ensures) (l .inv .1))
 
 returns : tie.Need-returns Inv-loop μ-loop
 returns c =
@@ -49,5 +44,5 @@ returns c =
 pub placed-spec : {M : Type 1} → statement M
 placed-spec =
     tie.close
-    (tie.spec Inv-loop μ-loop no-claim-requires loop-holds (λ c. omega arith) (λ c. omega arith) claim-at-requires (λ c. omega arith)
+    (tie.spec Inv-loop μ-loop no-claim-requires loop-holds (λ c. omega arith) (λ c. omega arith) (λ c κs. omega arith) (λ c. omega arith)
     (λ c. omega arith) (λ c. omega arith) (λ c. omega arith) (λ c. omega arith) loop-again returns)

@@ -1,35 +1,39 @@
--- `ltd_listing` meets its contract. Assumes nothing.
+-- `ltd_listing` meets its contract: no record is answered 255, and a record's claim is listed. Assumes nothing.
 use mathlib.Core.Path.{_≡_, sym, ap, _∙_}
 use Prim.Native.Nat.{ℕ}
 use mathlib.Core.List.{List}
+use native.Mathlib.Omega.{arith}
 use lib.IntN.{ℤ}
 use lib.ListN.{length}
+use borrow.Author.Needs.{needs}
 use Rattle.calendar.specs.declared.Date.{Date}
 use Rattle.claim_months.specs.declared.Claim.{Claim}
 use Rattle.claim_months.specs.declared.Listed.{Listed}
 use Rattle.claim_months.specs.Listing.{listingOf, listAfter}
-use Rattle.c_abi.specs.Abi.{listedNumber}
-use borrow.Author.Needs.{needs}
+use Rattle.claim_file.specs.declared.MaybeClaim.{MaybeClaim}
+use Rattle.claim_file.specs.declared.MaybeClaim.the-variants.{Found, NoRecord}
+use Rattle.c_abi.specs.Abi.{refusedNumber}
+use Rattle.c_abi.specs.RecordCalls.{listedNumber, listingAnswer, listingAfter}
 use Rattle.c_abi.proofs.listing.ltd_listing.Statement.{statement}
 use Rattle.c_abi.proofs.listing.ltd_listing.Tie as tie
 
--- dates and claim are those of the numbers
-module _ (old l : List ℤ) (b b′ e e′ : Date) (k k′ : Claim) (m : Listed) (hb : b ≡ b′) (he : e ≡ e′) (hk : k ≡ k′)
-    (answer : m ≡ listingOf b e k (length old)) (left : l ≡ listAfter b e k old) where
-  answers : (n : ℕ) → n ≡ listedNumber m → (n ≡ listedNumber (listingOf b′ e′ k′ (length old))) × (l ≡ listAfter b′ e′ k′ old)
-  answers n q = (
-    q ∙ ap listedNumber (answer ∙ (λ i. listingOf (hb i) (he i) (hk i) (length old))),
-    left ∙ (λ i. listAfter (hb i) (he i) (hk i) old),
+module _ (old : List ℤ) (first last : Date) (r : MaybeClaim) where
+  none : (n : ℕ) → n ≡ refusedNumber 255 → NoRecord ≡ r → (n ≡ listingAnswer first last r (length old)) × (old ≡ listingAfter first last r old)
+  unfolding listingAnswer listingAfter
+  none n e h = (e ∙ ap (λ (m : MaybeClaim). listingAnswer first last m (length old)) h, ap (λ (m : MaybeClaim). listingAfter first last m old) h)
+
+  -- the dates are those of the numbers, and the claim is the record's
+  listed : (b e : Date) (c : Claim) (m : Listed) (l : List ℤ) → b ≡ first → e ≡ last → Found c ≡ r → m ≡ listingOf b e c (length old)
+      → l ≡ listAfter b e c old → (n : ℕ) → n ≡ listedNumber m
+      → (n ≡ listingAnswer first last r (length old)) × (l ≡ listingAfter first last r old)
+  unfolding listingAnswer listingAfter
+  listed b e c m l hb he hc answer left n q = (
+    q ∙ ap listedNumber answer ∙ (λ i. listingAnswer (hb i) (he i) (hc i) (length old)),
+    left ∙ (λ i. listingAfter (hb i) (he i) (hc i) old),
   )
 
 returns : tie.Need-returns
-unfolding listedNumber
-returns c =
-    let m = c .before in
-    let l = m .before .before .before in
-    let e = l .before .before in
-    answers (e .before .before .before .args .list .now) _ _ _ _ _ _ _ _ (e .before .date-in .ensures) (e .date-in2 .ensures) (e .before .before .claim-in .ensures)
-    (l .list-months .ensures .0) (l .list-months .ensures .1) _ (ap listedNumber (sym (m .months .given .1)))
+returns c = none _ _ _ _ _ (omega arith) (sym (c .enum-told .given .1) ∙ c .before .before .read-record .ensures)
 
 returns-2 : tie.Need-returns-2
 unfolding listedNumber
@@ -37,11 +41,25 @@ returns-2 c =
     let m = c .before in
     let l = m .before .before .before in
     let e = l .before .before in
-    answers (e .before .before .before .args .list .now) _ _ _ _ _ _ _ _ (e .before .date-in .ensures) (e .date-in2 .ensures) (e .before .before .claim-in .ensures)
-    (l .list-months .ensures .0) (l .list-months .ensures .1) _ (ap listedNumber (sym (m .refused .given .1)))
+    let r = e .before .before .before in
+    listed (r .before .before .before .before .args .list .now) _ _ _ _ _ _ _ _ (e .before .date-in .ensures) (e .date-in2 .ensures)
+    (sym (r .read .given .1) ∙ r .before .before .read-record .ensures) (l .list-months .ensures .0) (l .list-months .ensures .1) _
+    (ap listedNumber (sym (m .months .given .1)))
+
+returns-3 : tie.Need-returns-3
+unfolding listedNumber
+returns-3 c =
+    let m = c .before in
+    let l = m .before .before .before in
+    let e = l .before .before in
+    let r = e .before .before .before in
+    listed (r .before .before .before .before .args .list .now) _ _ _ _ _ _ _ _ (e .before .date-in .ensures) (e .date-in2 .ensures)
+    (sym (r .read .given .1) ∙ r .before .before .read-record .ensures) (l .list-months .ensures .0) (l .list-months .ensures .1) _
+    (ap listedNumber (sym (m .refused .given .1)))
 
 pub ltd-listing-spec : {M : Type 1} → statement M
 ltd-listing-spec =
     tie.close
-    (tie.spec (λ c κs. search needs) (λ c κs. search needs) (λ c κs. search needs) (λ c κs. search needs) (λ c. search needs) (λ c. search needs)
-    (λ c. search needs) (λ c. search needs) (λ c. search needs) (λ c. search needs) returns (λ c. search needs) returns-2)
+    (tie.spec (λ c κs. search needs) (λ c. search needs) (λ c. search needs) returns (λ c κs. search needs) (λ c κs. search needs)
+    (λ c κs. search needs) (λ c. search needs) (λ c. search needs) (λ c. search needs) (λ c. search needs) (λ c. search needs) (λ c. search needs) returns-2
+    (λ c. search needs) returns-3)

@@ -1,17 +1,15 @@
 -- `closing_counts` meets its contract. Invariant: the first k counts are those of the list. Assumes nothing.
-use Prim.Native.Nat.{ℕ, zero, suc, _+_, _-_, _*_, _/_, _%_, _≤_, _<_}
-use mathlib.Core.Path.{_≡_, refl, sym, ap, _∙_}
-use mathlib.Core.Bool.{true, _&&_}
+use Prim.Native.Nat.{ℕ, zero, suc, _-_, _≤_, _<_}
+use mathlib.Core.Path.{_≡_, refl, ap, _∙_}
+use mathlib.Core.Bool.{true}
 use mathlib.Core.List.{List}
 use native.Mathlib.Omega.{arith}
-use borrow.Author.Needs.{needs}
 use lib.IntN.{ℤ, pos, natAbs}
 use lib.Dec.{eqb}
-use lib.ListN.{length, getD, set, length-set}
+use lib.ListN.{length, getD, length-set}
 use mir.Syntax.{w64}
 use mir.Val.{toZ, ofZ}
 use mir.Facts.{toZ-ofZ}
-use Rattle.basics.specs.Tables.{table}
 use Rattle.basics.proofs.Tests.{tests, by, and-left, and-right}
 use Rattle.basics.proofs.Tables.{list-table, filled-more}
 use Rattle.c_abi.specs.StudyCalls.{isWord, closingAt, countsAreWords}

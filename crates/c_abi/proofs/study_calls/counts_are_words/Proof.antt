@@ -1,5 +1,5 @@
 -- `counts_are_words` meets its contract. The loop's invariant: the counts that are left decide. Assumes nothing.
-use Prim.Native.Nat.{ℕ, suc, _+_, _-_, _*_, _/_, _%_, _≤_, _<_}
+use Prim.Native.Nat.{ℕ, suc, _-_, _≤_, _<_}
 use mathlib.Core.Path.{_≡_, refl, sym, ap, _∙_}
 use mathlib.Core.Bool.{true, false, _&&_, and-false, and-true}
 use mathlib.Core.List.{List}

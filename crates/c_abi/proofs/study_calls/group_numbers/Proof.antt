@@ -1,13 +1,11 @@
 -- `group_numbers` meets its contract. Invariant: the first k numbers are those of the list. Assumes nothing.
 use Prim.Native.Nat.{ℕ, _+_, _-_, _*_, _≤_, _<_}
-use mathlib.Core.Path.{_≡_, refl, sym, ap, _∙_}
+use mathlib.Core.Path.{_≡_, refl, _∙_}
 use native.Mathlib.Omega.{arith}
-use borrow.Author.Needs.{needs}
-use lib.IntN.{ℤ, pos}
-use lib.ListN.{length, getD, set, length-set}
+use lib.IntN.{pos}
+use lib.ListN.{length, getD, length-set}
 use mir.Syntax.{w64}
 use mir.Facts.{toZ-ofZ}
-use Rattle.basics.specs.Tables.{table}
 use Rattle.basics.proofs.Tables.{list-table, filled-more}
 use Rattle.c_abi.proofs.study_calls.group_numbers.Statement.{statement}
 use Rattle.c_abi.proofs.study_calls.group_numbers.Tie as tie

@@ -1,12 +1,8 @@
 -- `is_word` meets its contract: the number is read back from its bits. Assumes nothing.
-use mathlib.Core.Path.{_≡_, refl, sym, ap}
+use mathlib.Core.Path.{_≡_, refl}
 use mathlib.Core.Bool.{true, false, true≢false}
-use Prim.Native.Nat.{ℕ, suc}
-use lib.Dec.{leb}
 use lib.IntN.{ℤ, pos, negsuc}
 use lib.Signed.{ltZ, leZ}
-use mir.Syntax.{w64}
-use mir.Val.{toZ, ofZ}
 use mir.Facts.{toZ-ofZ}
 use Rattle.basics.proofs.Tests.{tests}
 use Rattle.c_abi.specs.StudyCalls.{isWord}

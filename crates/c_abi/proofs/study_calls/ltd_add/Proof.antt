@@ -1,10 +1,9 @@
 -- `ltd_add` meets its contract: each way out has the tests that lead there. Assumes nothing.
 use mathlib.Core.Path.{_≡_, sym, ap, _∙_}
-use mathlib.Core.Bool.{true, false}
+use mathlib.Core.Bool.{true}
 use native.Mathlib.Omega.{arith}
 use borrow.Author.Needs.{needs}
 use borrow.Author.Tests.{not-true, not-false}
-use lib.ListN.{length}
 use Rattle.study.specs.declared.Study.{Study}
 use Rattle.study.specs.Study.{added}
 use Rattle.c_abi.specs.StudyCalls.{studyForm}
@@ -32,7 +31,7 @@ returns-3 c =
     let r = a .before .before .before .before in
     let g = c .before .before .before .before .before .before .before .before .before .before .before .before .before .before .args in
     refused (g .study .now) (g .claim .now) (g .rates .now) (formed (c .before .before .before .before .before .before .before .before .before)) _ (sym (r .read .given .1) ∙ r .before .before .read-record .ensures) (a .add .result)
-    (a .add .ensures ∙ ap (λ (s : Study). added s (r .read .given .0 .0) (g .rates .now)) (a .before .study-in .ensures)) (c .if2 .taken)
+    (a .add .ensures ∙ ap (λ (s : Study). added s (r .read .given .0 .0) (g .rates .now)) (a .before .study-in .ensures)) (λ z. omega (arith, c .if2 .taken))
 
 put-study-requires : tie.Need-put-study-requires
 put-study-requires c κs = form _ (formed (c .before .before .before .before .before .before .before .before .before .before .before)) .room
@@ -43,7 +42,7 @@ returns-4 c =
     let r = a .before .before .before .before in
     let g = c .before .before .before .before .before .before .before .before .before .before .before .before .before .before .before .before .before .before .args in
     taken (g .study .now) (g .claim .now) (g .rates .now) (formed (c .before .before .before .before .before .before .before .before .before .before .before .before .before)) _ (sym (r .read .given .1) ∙ r .before .before .read-record .ensures) (a .add .result)
-    (a .add .ensures ∙ ap (λ (s : Study). added s (r .read .given .0 .0) (g .rates .now)) (a .before .study-in .ensures)) (c .before .before .before .before .if2 .left) _ (c .before .put-study .ensures)
+    (a .add .ensures ∙ ap (λ (s : Study). added s (r .read .given .0 .0) (g .rates .now)) (a .before .study-in .ensures)) (omega (arith, c .before .before .before .before .if2 .left)) _ (c .before .put-study .ensures)
 
 pub ltd-add-spec : {M : Type 1} → statement M
 ltd-add-spec =

@@ -1,6 +1,6 @@
 -- `ltd_open` meets its contract: a short list is answered 255, and a list that is long enough gets the study opened. Assumes nothing.
-use Prim.Native.Nat.{ℕ}
-use mathlib.Core.Path.{_≡_, ap, ap₂, _∙_}
+use mathlib.Core.Path.{ap, ap₂, _∙_}
+use native.Mathlib.Omega.{arith}
 use borrow.Author.Needs.{needs}
 use lib.Seq.{sets}
 use Rattle.study.specs.declared.Answer.{Answer}
@@ -11,7 +11,7 @@ use Rattle.c_abi.proofs.study_calls.ltd_open.Statement.{statement}
 use Rattle.c_abi.proofs.study_calls.ltd_open.Tie as tie
 
 returns : tie.Need-returns
-returns c = short 43 _ _ _ (c .if1 .taken)
+returns c = short 43 (c .before .args .study .now) _ _ (omega arith)
 
 returns-2 : tie.Need-returns-2
 returns-2 c =
@@ -19,7 +19,7 @@ returns-2 c =
     let e1 = o .before .before .before in
     let old = e1 .before .args .study .now in
     let e = o .open .ensures ∙ ap₂ opened (o .before .before .date-in .ensures) (o .before .date-in2 .ensures) in
-    long 43 old _ _ _ _ (e1 .if1 .left) (ap (λ (a : Answer). a .refused) e) (c .before .put-study .ensures ∙ ap (λ (a : Answer). sets old 0 (studyNumbers (a .study))) e)
+    long 43 old _ _ _ _ (omega arith) (ap (λ (a : Answer). a .refused) e) (c .before .put-study .ensures ∙ ap (λ (a : Answer). sets old 0 (studyNumbers (a .study))) e)
 
 pub ltd-open-spec : {M : Type 1} → statement M
 ltd-open-spec =

@@ -1,13 +1,12 @@
 -- `study_in` meets its contract: its form says what each reading asks. Assumes nothing.
-use mathlib.Core.Path.{_≡_, sym, ap, _∙_}
+use mathlib.Core.Path.{_≡_, ap, _∙_}
 use native.Mathlib.Omega.{arith}
-use borrow.Author.Needs.{needs}
-use lib.IntN.{ℤ, pos, natAbs}
+use lib.IntN.{pos, natAbs}
 use lib.ListN.{getD}
 use mir.Syntax.{w64}
 use mir.Val.{toZ, ofZ}
 use mir.Facts.{toZ-ofZ}
-use Rattle.c_abi.specs.StudyCalls.{isWord, studyIn}
+use Rattle.c_abi.specs.StudyCalls.{studyIn}
 use Rattle.c_abi.proofs.StudyForms.{Form, form}
 use Rattle.c_abi.proofs.study_calls.study_in.Statement.{statement}
 use Rattle.c_abi.proofs.study_calls.study_in.Tie as tie

@@ -1,14 +1,13 @@
 -- `word` meets its contract: a number of 32 bits is not negative and fits. Assumes nothing.
-use Prim.Native.Nat.{ℕ, _<_}
+use Prim.Native.Nat.{_<_}
 use mathlib.Core.Path.{_≡_, refl}
 use mathlib.Core.Bool.{true, false, false≢true}
 use lib.Dec.{T}
 use lib.IntN.{ℤ, pos, negsuc, natAbs}
 use lib.Signed.{nonNeg}
-use mir.Syntax.{w32, w64}
-use mir.Val.{Fits, toZ, ofZ}
+use mir.Syntax.{w32}
+use mir.Val.{Fits}
 use mir.Facts.{toZ-ofZ}
-use borrow.Author.Needs.{needs}
 use Rattle.basics.proofs.Tests.{tests}
 use Rattle.c_abi.specs.StudyCalls.{isWord}
 use Rattle.c_abi.proofs.study_calls.word.Statement.{statement}

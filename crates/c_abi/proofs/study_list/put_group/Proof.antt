@@ -1,9 +1,9 @@
 -- `put_group` meets its contract: the sum, the counts and the two expected sums, one run after another. Assumes nothing.
 use Prim.Native.Nat.{ℕ, _+_}
-use mathlib.Core.Path.{_≡_, refl, sym, ap, _∙_}
+use mathlib.Core.Path.{_≡_, refl, ap, _∙_}
 use mathlib.Core.List.{List, [], _∷_, _++_, append-assoc}
 use native.Mathlib.Omega.{arith}
-use lib.IntN.{ℤ, pos}
+use lib.IntN.{ℤ}
 use lib.ListN.{length, length-append}
 use lib.Seq.{sets}
 use borrow.Author.Needs.{needs}
