@@ -12,7 +12,7 @@ use valuation::Reserve;
 
 // The valuation rate, or 2^32 + the number refused.
 #[no_mangle]
-pub extern "C" fn ltd_valuation_rate(rates: &[u32], cell: u8, t: u64, duration: u32) -> u64
+pub extern "C" fn ltd_valuation_rate(rates: &[u32], cell: u32, t: u64, duration: u32) -> u64
     ensures { λ r. ⌜ r ≡ rateNumber (rateIn (now (rates .entry)) cell t duration) ⌝ }
 {
     match valuation::rate::valuation_rate(rates, cell, t, Duration(duration)) {
@@ -45,7 +45,7 @@ pub extern "C" fn ltd_factor(group: u8, terminations: u32, expected: i64, out: &
 #[no_mangle]
 pub extern "C" fn ltd_reserve_factor(
     rates: &[u32],
-    cell: u8,
+    cell: u32,
     first: u32,
     t: &[u64],
     months: u32,

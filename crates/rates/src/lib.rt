@@ -22,7 +22,7 @@ fn place_of(duration: Duration) -> usize
 }
 
 // The rate of a cell at a duration, of the kind whose rates start `from` places into the cell; 0 past the table.
-fn rate(rates: &[u32], cell: u8, from: u16, duration: Duration) -> u32
+fn rate(rates: &[u32], cell: u32, from: u16, duration: Duration) -> u32
     ensures { λ r. ⌜ r ≡ getD (now (rates .entry)) (cell * 958 + from + place (duration .0)) 0 ⌝ }
 {
     let at = cell as usize * 958 + from as usize + place_of(duration);
@@ -33,21 +33,21 @@ fn rate(rates: &[u32], cell: u8, from: u16, duration: Duration) -> u32
 }
 
 // The recovery rate of a cell at a duration, in millionths; 0 past the table.
-pub fn recovery(rates: &[u32], cell: u8, duration: Duration) -> u32
+pub fn recovery(rates: &[u32], cell: u32, duration: Duration) -> u32
     ensures { λ r. ⌜ r ≡ recoveryRate (now (rates .entry)) cell (duration .0) ⌝ }
 {
     rate(rates, cell, 0, duration)
 }
 
 // The death rate of a cell at a duration, in millionths; 0 past the table.
-pub fn death(rates: &[u32], cell: u8, duration: Duration) -> u32
+pub fn death(rates: &[u32], cell: u32, duration: Duration) -> u32
     ensures { λ r. ⌜ r ≡ deathRate (now (rates .entry)) cell (duration .0) ⌝ }
 {
     rate(rates, cell, 479, duration)
 }
 
 // Whether recovery and death rate of a cell are together at most 1,000,000 at each duration from 2 to 480.
-fn sound(rates: &[u32], cell: u8) -> bool
+fn sound(rates: &[u32], cell: u32) -> bool
     ensures { λ r. ⌜ r ≡ ratesSound (now (rates .entry)) cell ⌝ }
 {
     let mut n: u32 = 0;
@@ -63,7 +63,7 @@ fn sound(rates: &[u32], cell: u8) -> bool
 }
 
 // The number of the first of the checks 6 to 8 that fails for a table and a cell, or 0.
-pub fn check(rates: &[u32], cell: u8) -> u8
+pub fn check(rates: &[u32], cell: u32) -> u8
     ensures { λ r. ⌜ r ≡ rateCheck (now (rates .entry)) cell ⌝ }
 {
     let cells = rates.len() / 958;

@@ -5,7 +5,7 @@ use test_support::lists::counting;
 use test_support::print::put;
 use test_support::print::put_next;
 
-// A table's length, and its check with cell 0, 1, 63, 64 and 255.
+// A table's length, and its check with cell 0, 1, 63, 64, 255, 256 and 2^32 - 1.
 fn put_checks(table: &[u32]) {
     put(b"length");
     put_next(table.len() as u64);
@@ -15,6 +15,8 @@ fn put_checks(table: &[u32]) {
     put_next(rates::check(table, 63) as u64);
     put_next(rates::check(table, 64) as u64);
     put_next(rates::check(table, 255) as u64);
+    put_next(rates::check(table, 256) as u64);
+    put_next(rates::check(table, 4294967295) as u64);
     put(b"\n");
 }
 
@@ -51,12 +53,12 @@ fn put_tables(place: usize, recovery: u32, death: u32)
 }
 
 // The recovery and the death rate of a cell at a duration.
-fn put_rates(table: &[u32], cell: u8, duration: u32) {
+fn put_rates(table: &[u32], cell: u32, duration: u32) {
     put_next(rates::recovery(table, cell, Duration(duration)) as u64);
     put_next(rates::death(table, cell, Duration(duration)) as u64);
 }
 
-fn put_cell(table: &[u32], cell: u8) {
+fn put_cell(table: &[u32], cell: u32) {
     put(b"cell");
     put_next(cell as u64);
     put(b" rates");
@@ -105,5 +107,7 @@ fn main() {
     put_cell(&table, 1);
     put_cell(&table, 2);
     put_cell(&table, 255);
+    put_cell(&table, 256);
+    put_cell(&table, 4294967295);
     put_groups();
 }

@@ -18,7 +18,7 @@ fn refused(number: u8) {
 }
 
 // The answer for a cell, first duration, five T, months and discount.
-fn factor(case: u64, rates: &[u32], cell: u8, first: u32, t: [u64; 5], months: u32, v: f64) {
+fn factor(case: u64, rates: &[u32], cell: u32, first: u32, t: [u64; 5], months: u32, v: f64) {
     put_number(case);
     let answer = valuation::reserve_factor::reserve_factor(
         rates,
@@ -39,7 +39,7 @@ fn factor(case: u64, rates: &[u32], cell: u8, first: u32, t: [u64; 5], months: u
 }
 
 // The answer for a cell, T and duration.
-fn rate(case: u64, rates: &[u32], cell: u8, t: u64, duration: u32) {
+fn rate(case: u64, rates: &[u32], cell: u32, t: u64, duration: u32) {
     put_number(case);
     let answer = valuation::rate::valuation_rate(rates, cell, t, Duration(duration));
     match answer {
@@ -145,7 +145,7 @@ fn rate_durations(rates: &[u32]) {
 }
 
 // The first n rates as a table.
-fn part(rates: &[u32], n: usize, cell: u8) {
+fn part(rates: &[u32], n: usize, cell: u32) {
     if n <= rates.len() {
         factor(n as u64, &rates[0..n], cell, 4, EVEN, 24, 0.997);
         rate(n as u64, &rates[0..n], cell, 1000000, 4);
@@ -163,6 +163,8 @@ fn tables(rates: &[u32]) {
     part(rates, 1916, 1);
     part(rates, 1916, 2);
     part(rates, 1916, 255);
+    part(rates, 1916, 256);
+    part(rates, 1916, 4294967295);
 }
 
 // A call that fails several checks answers the first of them.

@@ -67,7 +67,7 @@ fn fresh_study(window: Window) -> Study
 }
 
 // The study with a claim's span added and the claim counted as taken.
-fn taken_span(study: Study, rates: &[u32], cell: u8, span: Span) -> Study
+fn taken_span(study: Study, rates: &[u32], cell: u32, span: Span) -> Study
     requires { ⌜ rateCheck (now rates) cell ≡ 0 ⌝ }
     requires { ⌜ hasRoom study ≡ true ⌝ }
     requires { ⌜ SpanBounds span ⌝ }
@@ -83,7 +83,7 @@ fn taken_span(study: Study, rates: &[u32], cell: u8, span: Span) -> Study
 }
 
 // The checks 6 to 9, and the span of a sound claim added.
-fn add_span(study: Study, rates: &[u32], cell: u8, span: Span) -> Answer
+fn add_span(study: Study, rates: &[u32], cell: u32, span: Span) -> Answer
     requires { ⌜ SpanBounds span ⌝ }
     ensures { λ r. ⌜ r ≡ spanAdded study (now (rates .entry)) cell span ⌝ }
 {
@@ -131,7 +131,7 @@ impl Study {
     {
         let window = self.window;
         match claim_months::exposure::span(claim, window) {
-            MaybeSpan::Spanned(span) => add_span(self, rates, claim.cell, span),
+            MaybeSpan::Spanned(span) => add_span(self, rates, claim.cell as u32, span),
             MaybeSpan::Refused(number) => Answer {
                 refused: number,
                 study: self,

@@ -49,7 +49,7 @@ fn duration_of(span: Span, place: u32) -> Duration
 }
 
 // The sums with one month added: its thirtieths, and those times each rate, to the sums of its duration's group.
-fn add_month(sums: Sums, rates: &[u32], cell: u8, duration: Duration, thirtieths: i64) -> Sums
+fn add_month(sums: Sums, rates: &[u32], cell: u32, duration: Duration, thirtieths: i64) -> Sums
     requires { ⌜ rateCheck (now rates) cell ≡ 0 ⌝ }
     requires { ⌜ natAbs thirtieths ≤ 30 ⌝ }
     requires { ⌜ allWithin 30000000000000000 (sums .thirtieths) ≡ true ⌝ }
@@ -73,7 +73,7 @@ fn add_month(sums: Sums, rates: &[u32], cell: u8, duration: Duration, thirtieths
 }
 
 // The sums over every month of a span, without its closing. One step per month.
-fn months_share(rates: &[u32], cell: u8, span: Span) -> Sums
+fn months_share(rates: &[u32], cell: u32, span: Span) -> Sums
     requires { ⌜ rateCheck (now rates) cell ≡ 0 ⌝ }
     requires { ⌜ SpanBounds span ⌝ }
     ensures { λ r. ⌜ r ≡ monthsShare (none .closings) (now (rates .entry)) cell span (span .months) ⌝ }
@@ -107,7 +107,7 @@ fn closing_counts(span: Span) -> [u32; 25]
 }
 
 // The share of a claim whose month records have this span.
-pub(crate) fn span_share(rates: &[u32], cell: u8, span: Span) -> Sums
+pub(crate) fn span_share(rates: &[u32], cell: u32, span: Span) -> Sums
     requires { ⌜ rateCheck (now rates) cell ≡ 0 ⌝ }
     requires { ⌜ SpanBounds span ⌝ }
     ensures { λ r. ⌜ r ≡ spanShare (now (rates .entry)) cell span ⌝ }

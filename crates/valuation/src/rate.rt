@@ -30,7 +30,7 @@ fn scaled(t: u64, s: u32) -> u32
 }
 
 // The valuation rate where the checks 6 to 8 have passed.
-pub(crate) fn rate_of(rates: &[u32], cell: u8, t: u64, duration: Duration) -> u32
+pub(crate) fn rate_of(rates: &[u32], cell: u32, t: u64, duration: Duration) -> u32
     requires { ⌜ rateCheck (now rates) cell ≡ 0 ⌝ }
     ensures { λ r. ⌜ r ≡ valuationRate (now (rates .entry)) cell t (duration .0) ⌝ }
 {
@@ -41,7 +41,7 @@ pub(crate) fn rate_of(rates: &[u32], cell: u8, t: u64, duration: Duration) -> u3
 }
 
 // The valuation rate of a T, cell and duration, or the number refused.
-pub fn valuation_rate(rates: &[u32], cell: u8, t: u64, duration: Duration) -> MaybeRate
+pub fn valuation_rate(rates: &[u32], cell: u32, t: u64, duration: Duration) -> MaybeRate
     ensures { λ r. ⌜ r ≡ rateIn (now (rates .entry)) cell t (duration .0) ⌝ }
 {
     let failed = check(rates, cell);

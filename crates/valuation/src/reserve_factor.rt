@@ -45,7 +45,7 @@ fn later(first: Duration, n: u32) -> Duration
 }
 
 // The valuation rate of the month after n others, with the T of its duration's group.
-fn month_rate(rates: &[u32], cell: u8, first: Duration, t: [u64; 5], n: u32) -> u32
+fn month_rate(rates: &[u32], cell: u32, first: Duration, t: [u64; 5], n: u32) -> u32
     requires { ⌜ (rateCheck (now rates) cell ≡ 0) × (first .0 ≤ 480) × (n ≤ 480) ⌝ }
     ensures { λ r. ⌜ r ≡ monthRate (now (rates .entry)) cell (first .0) t (n + 1) ⌝ }
 {
@@ -55,7 +55,7 @@ fn month_rate(rates: &[u32], cell: u8, first: Duration, t: [u64; 5], n: u32) -> 
 }
 
 // The running values after all months.
-fn after(rates: &[u32], cell: u8, first: Duration, t: [u64; 5], months: u32, v: f64) -> Running
+fn after(rates: &[u32], cell: u32, first: Duration, t: [u64; 5], months: u32, v: f64) -> Running
     requires { ⌜ (rateCheck (now rates) cell ≡ 0) × (first .0 ≤ 480) × (months ≤ 480) ⌝ }
     ensures { λ r. ⌜ r ≡ running (now (rates .entry)) cell (first .0) t v months ⌝ }
 {
@@ -75,7 +75,7 @@ fn after(rates: &[u32], cell: u8, first: Duration, t: [u64; 5], months: u32, v: 
 // The reserve factor of a cell from a first duration on, over the given months, or the number refused.
 pub fn reserve_factor(
     rates: &[u32],
-    cell: u8,
+    cell: u32,
     first: Duration,
     t: [u64; 5],
     months: u32,

@@ -8,11 +8,13 @@ use Rattle.study.proofs.Study.add.Statement.{statement}
 use Rattle.study.proofs.Study.add.Tie as tie
 
 add-span-requires : tie.Need-add-span-requires
-add-span-requires c κs = spanned-bounds _ _ _ _ (sym (c .before .span2 .given .1) ∙ c .before .before .before .span .ensures)
+add-span-requires c κs =
+    let d = c .before .before in
+    spanned-bounds _ _ _ _ (sym (d .span2 .given .1) ∙ d .before .before .span .ensures)
 
 returns : tie.Need-returns
 returns c =
-    let d = c .before .before in
+    let d = c .before .before .before in
     c .add-span .ensures ∙ added-spanned _ _ _ _ (sym (d .span2 .given .1) ∙ d .before .before .span .ensures)
 
 returns-2 : tie.Need-returns-2
@@ -23,4 +25,4 @@ returns-2 c =
 pub add-spec : {M : Type 1} → statement M
 add-spec =
     tie.close
-    (tie.spec (λ c κs. search needs) (λ c. search needs) add-span-requires (λ c. search needs) returns returns-2)
+    (tie.spec (λ c κs. search needs) (λ c. search needs) (λ c. search needs) add-span-requires (λ c. search needs) returns returns-2)
