@@ -7,6 +7,8 @@ use crate::Refusal;
 pub const BLOCK_LENGTH: usize = 512;
 pub const CLAIM_LENGTH: usize = 32;
 pub const MOST_IN_BLOCK: usize = 15;
+/// The most bytes that the records of a block take.
+pub const RECORDS_LENGTH: usize = MOST_IN_BLOCK * CLAIM_LENGTH;
 /// Where the bytes of a record that must be zero start.
 pub const ZEROS_AT: usize = 23;
 const COUNT_AT: usize = 2;
@@ -93,6 +95,22 @@ pub fn write_block(number: u32, claims: &[Claim], block: &mut [u8]) -> Result<()
     }
     seal(block);
     Ok(())
+}
+
+/// Reads the records of a claim block at the number due into `records`, the rest untouched, and answers how many. Check 11; block 0 holds
+/// no records.
+pub fn read_records(block: &[u8], due: u32, records: &mut [u8; RECORDS_LENGTH]) -> Result<usize, Refusal> {
+    let Block::Claims(ClaimBlock { count, claims }) = read_block(block, due)? else { return Err(Refusal::Block) };
+    for (record, claim) in records.chunks_exact_mut(CLAIM_LENGTH).zip(&claims[..count]) {
+        record.copy_from_slice(&claim_record(claim));
+    }
+    Ok(count)
+}
+
+/// Writes a claim block of records, one after the other. Check 11: also a part of a record at the end, or bytes that make no record.
+pub fn write_records(number: u32, records: &[u8], block: &mut [u8]) -> Result<(), Refusal> {
+    let claims: Option<Vec<Claim>> = records.chunks(CLAIM_LENGTH).map(read_claim).collect();
+    write_block(number, &claims.ok_or(Refusal::Block)?, block)
 }
 
 /// Writes block 0 with a window's dates. Check 11: the length.

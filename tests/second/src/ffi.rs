@@ -1,9 +1,7 @@
 //! The first implementation's calls, as its C header declares them, and safe wrappers over slices.
 //!
-//! A date is the claim file's four bytes as one number, a claim eight numbers. A refusal is the number of document 01's table; 255 says
-//! that a lent list has not the length asked for.
-
-use crate::claim::Claim;
+//! A date is the claim file's four bytes as one number, a claim its record, the claim file's 32 bytes. A refusal is the number of document
+//! 01's table, with 2^32 added where the answer has 64 bits; 255 says that a lent list has not the length or form asked for.
 
 mod c {
     #[link(name = "c_abi", kind = "static")]
@@ -14,31 +12,18 @@ mod c {
 
         pub fn ltd_read_window(block: *const u8, block_len: usize, dates: *mut u32, dates_len: usize) -> u8;
 
-        pub fn ltd_listing(
-            first: u32,
-            last: u32,
-            number: u32,
-            disability: u32,
-            bcd: u32,
-            termination: u32,
-            maximum: u32,
-            status: u8,
-            code: u8,
-            cell: u8,
-            list: *mut i32,
-            list_len: usize,
-        ) -> u64;
+        pub fn ltd_listing(first: u32, last: u32, claim: *const u8, claim_len: usize, list: *mut i32, list_len: usize) -> u64;
 
-        pub fn ltd_study(file: *const u8, file_len: usize, rates: *const u32, rates_len: usize, out: *mut i64, out_len: usize) -> u8;
+        pub fn ltd_file_study(file: *const u8, file_len: usize, rates: *const u32, rates_len: usize, out: *mut i64, out_len: usize) -> u8;
 
         pub fn ltd_factor(group: u8, terminations: u32, expected: i64, out: *mut u64, out_len: usize) -> u8;
 
-        pub fn ltd_valuation_rate(rates: *const u32, rates_len: usize, cell: u8, t: u64, duration: u32) -> u64;
+        pub fn ltd_valuation_rate(rates: *const u32, rates_len: usize, cell: u32, t: u64, duration: u32) -> u64;
 
         pub fn ltd_reserve_factor(
             rates: *const u32,
             rates_len: usize,
-            cell: u8,
+            cell: u32,
             first: u32,
             t: *const u64,
             t_len: usize,
@@ -48,9 +33,9 @@ mod c {
             out_len: usize,
         ) -> u8;
 
-        pub fn ltd_read_block(block: *const u8, block_len: usize, due: u32, out: *mut u32, out_len: usize) -> u8;
+        pub fn ltd_read_block(block: *const u8, block_len: usize, due: u32, claims: *mut u8, claims_len: usize) -> u64;
 
-        pub fn ltd_write_block(number: u32, count: u32, claims: *const u32, claims_len: usize, block: *mut u8, block_len: usize) -> u8;
+        pub fn ltd_write_block(number: u32, claims: *const u8, claims_len: usize, block: *mut u8, block_len: usize) -> u8;
 
         pub fn ltd_write_window(first: u32, last: u32, block: *mut u8, block_len: usize) -> u8;
     }
@@ -74,29 +59,14 @@ pub fn read_window(block: &[u8], dates: &mut [u32]) -> u8 {
     unsafe { c::ltd_read_window(block.as_ptr(), block.len(), dates.as_mut_ptr(), dates.len()) }
 }
 
-/// The month records, six numbers each into `list`: how many, or 2^32 + the number refused.
-pub fn listing(first: u32, last: u32, claim: &Claim, list: &mut [i32]) -> u64 {
-    unsafe {
-        c::ltd_listing(
-            first,
-            last,
-            claim.number,
-            claim.disability.to_number(),
-            claim.bcd.to_number(),
-            claim.termination.to_number(),
-            claim.maximum.to_number(),
-            claim.status,
-            claim.code,
-            claim.cell,
-            list.as_mut_ptr(),
-            list.len(),
-        )
-    }
+/// The month records of a claim's record, six numbers each into `list`: how many, or 2^32 + the number refused.
+pub fn listing(first: u32, last: u32, claim: &[u8], list: &mut [i32]) -> u64 {
+    unsafe { c::ltd_listing(first, last, claim.as_ptr(), claim.len(), list.as_mut_ptr(), list.len()) }
 }
 
 /// The study of a whole claim file into `out` (46 numbers).
-pub fn study(file: &[u8], rates: &[u32], out: &mut [i64]) -> u8 {
-    unsafe { c::ltd_study(file.as_ptr(), file.len(), rates.as_ptr(), rates.len(), out.as_mut_ptr(), out.len()) }
+pub fn file_study(file: &[u8], rates: &[u32], out: &mut [i64]) -> u8 {
+    unsafe { c::ltd_file_study(file.as_ptr(), file.len(), rates.as_ptr(), rates.len(), out.as_mut_ptr(), out.len()) }
 }
 
 /// z, m and T into `out` (3 numbers).
@@ -105,23 +75,23 @@ pub fn factor(group: u8, terminations: u32, expected: i64, out: &mut [u64]) -> u
 }
 
 /// The valuation rate, or 2^32 + the number refused.
-pub fn valuation_rate(rates: &[u32], cell: u8, t: u64, duration: u32) -> u64 {
+pub fn valuation_rate(rates: &[u32], cell: u32, t: u64, duration: u32) -> u64 {
     unsafe { c::ltd_valuation_rate(rates.as_ptr(), rates.len(), cell, t, duration) }
 }
 
 /// The reserve factor into `out` (1 number), `t` five numbers.
-pub fn reserve_factor(rates: &[u32], cell: u8, first: u32, t: &[u64], months: u32, v: f64, out: &mut [f64]) -> u8 {
+pub fn reserve_factor(rates: &[u32], cell: u32, first: u32, t: &[u64], months: u32, v: f64, out: &mut [f64]) -> u8 {
     unsafe { c::ltd_reserve_factor(rates.as_ptr(), rates.len(), cell, first, t.as_ptr(), t.len(), months, v, out.as_mut_ptr(), out.len()) }
 }
 
-/// A block at the number due into `out` (121 numbers).
-pub fn read_block(block: &[u8], due: u32, out: &mut [u32]) -> u8 {
-    unsafe { c::ltd_read_block(block.as_ptr(), block.len(), due, out.as_mut_ptr(), out.len()) }
+/// The records of a block at the number due into `claims` (480 bytes): how many, or 2^32 + the number refused.
+pub fn read_block(block: &[u8], due: u32, claims: &mut [u8]) -> u64 {
+    unsafe { c::ltd_read_block(block.as_ptr(), block.len(), due, claims.as_mut_ptr(), claims.len()) }
 }
 
-/// The first `count` claims, eight numbers each, as a block.
-pub fn write_block(number: u32, count: u32, claims: &[u32], block: &mut [u8]) -> u8 {
-    unsafe { c::ltd_write_block(number, count, claims.as_ptr(), claims.len(), block.as_mut_ptr(), block.len()) }
+/// Records, one after the other, as a block.
+pub fn write_block(number: u32, claims: &[u8], block: &mut [u8]) -> u8 {
+    unsafe { c::ltd_write_block(number, claims.as_ptr(), claims.len(), block.as_mut_ptr(), block.len()) }
 }
 
 /// A window's dates as block 0.

@@ -69,16 +69,15 @@ impl<'a> RateTable<'a> {
     }
 
     /// Checks 6 to 8.
-    pub fn cell(&self, cell: u8) -> Result<CellRates<'a>, Refusal> {
-        let cell = cell as usize;
+    pub fn cell(&self, cell: u32) -> Result<CellRates<'a>, Refusal> {
         if self.cells == 0 {
             Err(Refusal::RateTable)
-        } else if cell >= self.cells {
+        } else if cell as usize >= self.cells {
             Err(Refusal::Cell)
         } else if self.sound >> cell & 1 == 0 {
             Err(Refusal::Rate)
         } else {
-            Ok(self.rates_of(cell))
+            Ok(self.rates_of(cell as usize))
         }
     }
 }
@@ -184,7 +183,7 @@ impl Study {
     pub fn add(&mut self, claim: &Claim, rates: &RateTable) -> Result<(), Refusal> {
         self.window.check()?;
         let claim = claim.check()?;
-        let cell = rates.cell(claim.cell)?;
+        let cell = rates.cell(claim.cell.into())?;
         self.check_room()?;
 
         // The months of a group follow each other: sum up each run before adding it to the study.

@@ -85,7 +85,7 @@ fn rate_of(cell: &CellRates, t: u64, duration: Duration) -> u32 {
 }
 
 /// The valuation rate of a T, cell and duration, in millionths. Checks 6 to 8 and 12.
-pub fn valuation_rate(rates: &RateTable, cell: u8, t: u64, duration: u32) -> Result<u32, Refusal> {
+pub fn valuation_rate(rates: &RateTable, cell: u32, t: u64, duration: u32) -> Result<u32, Refusal> {
     let cell = rates.cell(cell)?;
     let duration = check_duration(duration)?;
     Ok(rate_of(&cell, t, duration))
@@ -109,7 +109,7 @@ impl Running {
 }
 
 /// The reserve factor of N `months` from the duration `first` on, with the T of each group. Checks 6 to 8, 12 and 13.
-pub fn reserve_factor(rates: &RateTable, cell: u8, first: u32, t: &[u64; 5], months: u32, v: f64) -> Result<f64, Refusal> {
+pub fn reserve_factor(rates: &RateTable, cell: u32, first: u32, t: &[u64; 5], months: u32, v: f64) -> Result<f64, Refusal> {
     let cell = rates.cell(cell)?;
     let first = check_duration(first)?;
     if months > 480 {

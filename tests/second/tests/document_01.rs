@@ -1,6 +1,8 @@
 //! The second implementation against document 01: its figures, its table, and its rules taken literally.
 
-use second::block::{read_block, seal, write_block, write_window, Block, BLOCK_LENGTH};
+use second::block::{
+    claim_record, read_block, read_records, seal, write_block, write_records, write_window, Block, BLOCK_LENGTH, RECORDS_LENGTH,
+};
 use second::calendar::{month_length, ClaimMonths, Date, Day};
 use second::claim::{Claim, CLOSED, DEATH, LIMIT, MAX_OUT, OPEN, RECOVERY, SETTLEMENT};
 use second::months::{listing, Window};
@@ -550,6 +552,9 @@ fn valuation_rates() {
     assert_eq!(valuation_rate(&table, 0, 0, 1), Err(Refusal::Valuation));
     assert_eq!(valuation_rate(&table, 0, 0, 481), Err(Refusal::Valuation));
     assert_eq!(valuation_rate(&table, 2, 0, 481), Err(Refusal::Cell));
+    for cell in [255, 256, 257, 65_536, 1 << 24, u32::MAX] {
+        assert_eq!(valuation_rate(&table, cell, 1_000_000, 2), Err(Refusal::Cell));
+    }
     assert_eq!(valuation_rate(&RateTable::new(&rates[1..]), 2, 0, 481), Err(Refusal::RateTable));
     let high = flat_rates(1_000_000, 1);
     assert_eq!(valuation_rate(&RateTable::new(&high), 0, 0, 481), Err(Refusal::Rate));
@@ -708,6 +713,39 @@ fn writing_refuses_without_a_trace() {
     assert_eq!(write_block(1, &[], &mut block[1..]), Err(Refusal::Block));
     assert_eq!(block, [9; BLOCK_LENGTH]);
     assert_eq!(write_block(65_535, &[Claim::default(); 15], &mut block), Ok(()));
+}
+
+#[test]
+fn blocks_of_records() {
+    let claim = closed_claim("2009-06-11", "2012-04-29", RECOVERY);
+    let records = [claim_record(&claim), claim_record(&Claim { number: u32::MAX, cell: 255, ..claim })].concat();
+    let (mut block, mut by_claims) = ([9; BLOCK_LENGTH], [9; BLOCK_LENGTH]);
+    assert_eq!(write_records(258, &records, &mut block), Ok(()));
+    write_block(258, &[claim, Claim { number: u32::MAX, cell: 255, ..claim }], &mut by_claims).unwrap();
+    assert_eq!(block, by_claims);
+    let mut read = [9; RECORDS_LENGTH];
+    assert_eq!(read_records(&block, 258, &mut read), Ok(2));
+    assert_eq!((&read[..64], &read[64..]), (&records[..], &[9; RECORDS_LENGTH - 64][..]));
+    assert_eq!(write_records(1, &records.repeat(7)[..480 - 32], &mut block), Ok(()));
+
+    // Refused without a trace: another number due, block 0, a part of a record, a byte that must be zero, a 16th claim.
+    let before = block;
+    read = [9; RECORDS_LENGTH];
+    assert_eq!(read_records(&block, 2, &mut read), Err(Refusal::Block));
+    let mut block_0 = [0; BLOCK_LENGTH];
+    write_window(date("2009-01-01"), date("2017-12-31"), &mut block_0).unwrap();
+    assert_eq!(read_records(&block_0, 0, &mut read), Err(Refusal::Block));
+    assert_eq!(read, [9; RECORDS_LENGTH]);
+    for length in (1..64).filter(|length| length % 32 != 0) {
+        assert_eq!(write_records(1, &records[..length], &mut block), Err(Refusal::Block));
+    }
+    for at in (23..32).chain(55..64) {
+        let mut wrong = records.clone();
+        wrong[at] = 1;
+        assert_eq!(write_records(1, &wrong, &mut block), Err(Refusal::Block));
+    }
+    assert_eq!(write_records(1, &records.repeat(8), &mut block), Err(Refusal::Block));
+    assert_eq!(block, before);
 }
 
 #[test]

@@ -22,7 +22,7 @@ fn main() {
     let mut best = [f64::INFINITY; 2];
     for _ in 0..5 {
         let begin = Instant::now();
-        let refused = ffi::study(black_box(&file), black_box(&rates), &mut sums);
+        let refused = ffi::file_study(black_box(&file), black_box(&rates), &mut sums);
         best[0] = best[0].min(begin.elapsed().as_secs_f64());
         let begin = Instant::now();
         let run = black_box(run_file(black_box(&file), black_box(&rates)));

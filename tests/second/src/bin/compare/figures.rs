@@ -1,7 +1,7 @@
 //! Document 01's figures to hold it to. The first implementation alone is held to the figure; the comparison runs along.
 
 use crate::inputs::{closed_claim, date, day, flat_rates, open_claim, with_elimination, STUDY_WINDOW};
-use crate::one_input::{compare_factor, compare_listing, compare_reserve_factor, compare_study, first_factor, LONG_LIST, REFUSED};
+use crate::one_input::{compare_factor, compare_file_study, compare_listing, compare_reserve_factor, first_factor, LONG_LIST, REFUSED};
 use crate::{test, Outcome, Test};
 use second::calendar::Date;
 use second::claim::{Claim, MAX_OUT, RECOVERY, SETTLEMENT};
@@ -28,12 +28,10 @@ pub const TESTS: &[Test] = &[
 
 /// The first implementation's month records, or its refusal.
 fn rows_in(window: (Date, Date), claim: &Claim) -> Result<Result<Vec<[i32; 6]>, u64>, String> {
-    let answer = compare_listing(window.0, window.1, claim, LONG_LIST)?;
+    let (answer, list) = compare_listing(window.0, window.1, claim, LONG_LIST)?;
     if answer >= REFUSED {
         return Ok(Err(answer - REFUSED));
     }
-    let mut list = [0; LONG_LIST];
-    ffi::listing(window.0.to_number(), window.1.to_number(), claim, &mut list);
     Ok(Ok(list[..answer as usize * 6].chunks_exact(6).map(|row| row.try_into().unwrap()).collect()))
 }
 
@@ -133,7 +131,7 @@ fn reserve_factor(_: &mut Rng) -> Outcome {
 
 /// What the program prints, from the first implementation's numbers.
 fn printed(file: &[u8], rates: &[u32]) -> Result<String, String> {
-    Ok(report(&compare_study(file, rates)?, first_factor))
+    Ok(report(&compare_file_study(file, rates)?, first_factor))
 }
 
 fn printed_example(_: &mut Rng) -> Outcome {

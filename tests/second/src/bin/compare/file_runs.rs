@@ -1,7 +1,7 @@
 //! The study over whole claim files, sound and damaged, short and long.
 
 use crate::inputs::{closed_claim, date, file_of, flat_rates, sound_claims, sound_study, STUDY_WINDOW};
-use crate::one_input::{compare_study, hex, same};
+use crate::one_input::{compare_file_study, hex, same};
 use crate::{test, Outcome, Test};
 use second::block::{write_block, BLOCK_LENGTH};
 use second::claim::{Claim, LIMIT};
@@ -31,7 +31,7 @@ fn one_claim(rng: &mut Rng) -> Outcome {
         let rates = sound_rates(rng, cells);
         let claim = Claim { cell: rng.below(cells as u64) as u8, ..sound_claim(rng) };
         let window = sound_window(rng, &claim);
-        compare_study(&claim_file(window, &[claim], None), &rates)?;
+        compare_file_study(&claim_file(window, &[claim], None), &rates)?;
     }
     Ok(n)
 }
@@ -42,7 +42,7 @@ fn sound(rng: &mut Rng) -> Outcome {
         let most = if i % 4 == 0 { 500 } else { 60 };
         let (window, claims, rates) = sound_study(rng, most);
         let file = file_of(rng, window, &claims);
-        let numbers = compare_study(&file, &rates)?;
+        let numbers = compare_file_study(&file, &rates)?;
         let taken = [0, 0, 0, claims.len() as i64];
         same([numbers[0], numbers[1], numbers[2], numbers[5]], taken, || format!("file\n{}", hex(&file)))?;
     }
@@ -55,7 +55,7 @@ fn long(rng: &mut Rng) -> Outcome {
         let rates = sound_rates(rng, 16);
         let claims = sound_claims(rng, 20_000, 16);
         let window = sound_window(rng, &claims[0]);
-        compare_study(&claim_file(window, &claims, None), &rates)?;
+        compare_file_study(&claim_file(window, &claims, None), &rates)?;
     }
     Ok(n)
 }
@@ -74,7 +74,7 @@ fn damaged_claim(rng: &mut Rng) -> Outcome {
             damage_rates(rng, &mut rates);
         }
         let file = file_of(rng, window, &claims);
-        compare_study(&file, &rates)?;
+        compare_file_study(&file, &rates)?;
     }
     Ok(n)
 }
@@ -89,7 +89,7 @@ fn damaged_file(rng: &mut Rng) -> Outcome {
                 damage_file(rng, &mut file);
             }
         }
-        compare_study(&file, &rates)?;
+        compare_file_study(&file, &rates)?;
     }
     Ok(n)
 }
@@ -100,7 +100,7 @@ fn every_length(rng: &mut Rng) -> Outcome {
     let mut file = claim_file(STUDY_WINDOW, &claims, None);
     file.extend([0; BLOCK_LENGTH]);
     for length in 0..=file.len() {
-        compare_study(&file[..length], &rates)?;
+        compare_file_study(&file[..length], &rates)?;
     }
     Ok(file.len() as u64 + 1)
 }
@@ -116,7 +116,7 @@ fn damaged_rates(rng: &mut Rng) -> Outcome {
         let claims = sound_claims(rng, count, cells_used);
         let window = sound_window(rng, &claims[0]);
         let file = file_of(rng, window, &claims);
-        compare_study(&file, &rates)?;
+        compare_file_study(&file, &rates)?;
     }
     Ok(n)
 }
@@ -133,7 +133,7 @@ fn cells_64(rng: &mut Rng) -> Outcome {
         if i % 3 == 0 {
             claims[40].cell = rng.pick(&[cells as u8 - 1, cells as u8, 64, 128, 255]);
         }
-        compare_study(&claim_file(STUDY_WINDOW, &claims, None), &rates)?;
+        compare_file_study(&claim_file(STUDY_WINDOW, &claims, None), &rates)?;
     }
     Ok(n)
 }
@@ -156,7 +156,7 @@ fn check_order(rng: &mut Rng) -> Outcome {
         if rng.one_in(4) {
             damage_file(rng, &mut file);
         }
-        compare_study(&file, &rates)?;
+        compare_file_study(&file, &rates)?;
     }
     Ok(n)
 }
@@ -168,7 +168,7 @@ fn full(_: &mut Rng) -> Outcome {
     let mut file = claim_file(window, &claims, None);
     let check = |file: &[u8], paper: [i64; 4]| {
         let mut out = [0; 46];
-        ffi::study(file, &rates, &mut out);
+        ffi::file_study(file, &rates, &mut out);
         let figures = [out[0], out[1], out[2], out[5]];
         same((figures, out), (paper, run_file(file, &rates).numbers()), || {
             format!("window 2011-01-01 to 2011-03-31, {} blocks of one claim: {}", file.len() / BLOCK_LENGTH, claims[0])
@@ -193,7 +193,7 @@ fn all_block_numbers(_: &mut Rng) -> Outcome {
     }
     let check = |file: &[u8], paper: [i64; 3]| {
         let mut out = [0; 46];
-        ffi::study(file, &[], &mut out);
+        ffi::file_study(file, &[], &mut out);
         same(([out[0], out[1], out[2]], out), (paper, run_file(file, &[]).numbers()), || {
             format!("{} blocks and {} bytes without claims", file.len() / BLOCK_LENGTH, file.len() % BLOCK_LENGTH)
         })

@@ -1,5 +1,6 @@
 //! Inputs that the tests of several subjects use: dates and claims from text, claims, rates and files at random.
 
+use second::block::{claim_record, CLAIM_LENGTH, ZEROS_AT};
 use second::calendar::{Date, Day};
 use second::claim::{Claim, CLOSED, OPEN};
 use second::generate::{claim_file, damage_claim, sound_claim, sound_rates, sound_window};
@@ -69,6 +70,16 @@ pub fn any_claims(rng: &mut Rng, count: usize) -> Vec<Claim> {
         claims.push(claim);
     }
     claims
+}
+
+/// The records of `any_claims`, one after the other.
+pub fn any_records(rng: &mut Rng, count: usize) -> Vec<u8> {
+    any_claims(rng, count).iter().flat_map(claim_record).collect()
+}
+
+/// Makes a byte of a record that must be zero another.
+pub fn spoil_record(rng: &mut Rng, record: &mut [u8]) {
+    record[rng.range(ZEROS_AT as i64, CLAIM_LENGTH as i64 - 1) as usize] = rng.range(1, 255) as u8;
 }
 
 /// A number whose length in bits is random too.

@@ -1,8 +1,9 @@
 //! Calendar and listing: every date and day, every closing, and claims at random.
 
-use crate::inputs::{day, with_elimination, STUDY_WINDOW};
-use crate::one_input::{compare_listing, LONG_LIST};
+use crate::inputs::{any_claims, day, with_elimination, STUDY_WINDOW};
+use crate::one_input::{compare_listing, compare_record_listing, same, Answer, LONG_LIST, WRONG_FORM};
 use crate::{test, Outcome, Test};
+use second::block::{claim_record, CLAIM_LENGTH, ZEROS_AT};
 use second::calendar::{Date, Day};
 use second::claim::{Claim, CLOSED, LIMIT};
 use second::generate::{damage_claim, sound_claim, sound_window, wild_date};
@@ -17,6 +18,7 @@ pub const TESTS: &[Test] = &[
     test("listing: damaged claims and windows", 3, damaged),
     test("listing: wild numbers", 4, wild),
     test("listing: lists too short by one, and longer", 5, lengths),
+    test("listing: records too short, longer, and with bytes not zero", 49, record_forms),
 ];
 
 fn all_dates(_: &mut Rng) -> Outcome {
@@ -141,6 +143,41 @@ fn lengths(rng: &mut Rng) -> Outcome {
         damage_claim(rng, &mut damaged);
         compare_listing(first, last, &damaged, needed.saturating_sub(1))?;
         n += 1;
+    }
+    Ok(n)
+}
+
+/// 255 comes before every numbered check, so also where window, claim or list are refused.
+fn record_forms(rng: &mut Rng) -> Outcome {
+    let mut n = 0;
+    for _ in 0..2_000 {
+        let claim = any_claims(rng, 1)[0];
+        let (mut first, mut last) = sound_window(rng, &claim);
+        if rng.one_in(4) {
+            (first, last) = (last, first);
+        }
+        let length = (6 * records(first, last, &claim) + rng.below(7) as usize).saturating_sub(rng.pick(&[0, 0, 1, 7]));
+        let mut must = |record: &[u8], wanted: u64| {
+            n += 1;
+            let (answer, _) = compare_record_listing(first, last, record, length)?;
+            same(answer, wanted, || format!("listing {claim} in {first} to {last}, a record of {} bytes {record:?}", record.len()))
+        };
+        let record = claim_record(&claim);
+        let (answer, _) = compare_listing(first, last, &claim, length)?;
+        for short in [0, 1, 22, 23, 30, 31, rng.below(CLAIM_LENGTH as u64) as usize] {
+            must(&record[..short], u64::refused(WRONG_FORM))?;
+        }
+        // A longer record is taken, whatever follows it.
+        for long in [33, 36, 64, 480] {
+            must(&[&record[..], &vec![rng.bits() as u8; long - CLAIM_LENGTH]].concat(), answer)?;
+        }
+        for at in ZEROS_AT..CLAIM_LENGTH {
+            for byte in [1, 128, rng.range(1, 255) as u8] {
+                let mut wrong = record;
+                wrong[at] = byte;
+                must(&wrong, u64::refused(WRONG_FORM))?;
+            }
+        }
     }
     Ok(n)
 }

@@ -1,7 +1,7 @@
-//! Comparing both implementations on one input. Lists lent for writing hold a pattern before the call and are longer than asked for, so
+//! Comparing both implementations on one input. Lists lent for writing hold a pattern before the call and may be longer than asked for, so
 //! that a number written past its place shows.
 
-use second::block::{read_block, read_claim, write_block, write_window, Block};
+use second::block::{claim_record, read_block, read_claim, read_records, write_records, write_window, Block, RECORDS_LENGTH};
 use second::calendar::Date;
 use second::claim::Claim;
 use second::ffi;
@@ -12,12 +12,19 @@ use second::valuation::{factor, reserve_factor, valuation_rate, Factor};
 use second::Refusal;
 use std::fmt::{Debug, Write as _};
 
+/// What an answer of 64 bits has more than the number refused.
 pub const REFUSED: u64 = 1 << 32;
 /// A lent list has not the length or form asked for.
 pub const WRONG_FORM: u8 = 255;
 
+/// The answer of a call that says 0 or the number refused.
 pub fn answer<T>(result: &Result<T, Refusal>) -> u8 {
     result.as_ref().err().map_or(0, |refusal| refusal.number())
+}
+
+/// The answer of a call that says a figure, or 2^32 + the number refused.
+fn wide_answer(result: Result<u64, Refusal>) -> u64 {
+    result.unwrap_or_else(|refusal| u64::refused(refusal.number()))
 }
 
 /// Equal, or the input and both results as the message.
@@ -29,74 +36,174 @@ pub fn same<T: PartialEq + Debug>(first: T, second: T, input: impl FnOnce() -> S
     }
 }
 
-fn pattern(i: usize) -> u64 {
-    0xa5c3_96e1_7b2d_4f08 ^ (i as u64).wrapping_mul(0x0101_0101_0101_0101)
+/// What a lent list holds, compared bit for bit.
+pub trait Item: Copy + Debug {
+    fn of_bits(bits: u64) -> Self;
+    fn bits(self) -> u64;
 }
 
-pub fn compare_listing(first: Date, last: Date, claim: &Claim, length: usize) -> Result<u64, String> {
-    let blank: Vec<i32> = (0..length).map(|i| pattern(i) as i32).collect();
-    let (mut one, mut two) = (blank.clone(), blank);
-    let answer_1 = ffi::listing(first.to_number(), last.to_number(), claim, &mut one);
-    let answer_2 = match listing(first, last, claim, &mut two) {
-        Ok(count) => count as u64,
-        Err(refusal) => REFUSED + refusal.number() as u64,
-    };
-    let input = || format!("window {first} to {last}, {claim}, list of {length} numbers");
-    same(answer_1, answer_2, input)?;
-    if let Some(i) = (0..length).find(|&i| one[i] != two[i]) {
-        // The record there, or what stands past the records.
-        let record = i / 6 * 6..length.min(i / 6 * 6 + 6);
-        return same(&one[record.clone()], &two[record], || format!("{}, {answer_1} records, differing from number {i} on", input()))
-            .and(Ok(answer_2));
+macro_rules! integer_items {
+    ($($integer:ty)*) => {$(
+        impl Item for $integer {
+            fn of_bits(bits: u64) -> $integer {
+                bits as $integer
+            }
+            fn bits(self) -> u64 {
+                self as u64
+            }
+        }
+    )*};
+}
+integer_items!(u8 u32 u64 i32 i64);
+
+impl Item for f64 {
+    fn of_bits(bits: u64) -> f64 {
+        f64::from_bits(bits)
     }
-    Ok(answer_2)
+    fn bits(self) -> u64 {
+        self.to_bits()
+    }
+}
+
+/// What a list of `length` items holds before a call.
+fn pattern<T: Item>(length: usize) -> Vec<T> {
+    (0..length as u64).map(|i| T::of_bits(0xa5c3_96e1_7b2d_4f08 ^ i.wrapping_mul(0x0101_0101_0101_0101))).collect()
+}
+
+/// Lists of one length that hold the same, or the input and both from the first difference on.
+fn same_list<T: Item>(first: &[T], second: &[T], input: impl FnOnce() -> String) -> Result<(), String> {
+    let differ = |(one, two): (&T, &T)| one.bits() != two.bits();
+    match first.iter().zip(second).position(differ) {
+        None => Ok(()),
+        Some(at) => {
+            let shown = at..first.len().min(at + 50);
+            let (first, second) = (&first[shown.clone()], &second[shown]);
+            Err(format!("{}, lists differing from place {at} on\n  first:  {first:?}\n  second: {second:?}", input()))
+        }
+    }
+}
+
+/// What a call answers.
+pub trait Answer: Copy + PartialEq + Debug {
+    fn refused(number: u8) -> Self;
+    /// The number refused, or 0.
+    fn refusal(self) -> u8;
+}
+
+impl Answer for u8 {
+    fn refused(number: u8) -> u8 {
+        number
+    }
+    fn refusal(self) -> u8 {
+        self
+    }
+}
+
+impl Answer for u64 {
+    fn refused(number: u8) -> u64 {
+        REFUSED + number as u64
+    }
+    fn refusal(self) -> u8 {
+        self.saturating_sub(REFUSED) as u8
+    }
+}
+
+/// The refusals that leave a lent list as it was: all of them, but of an opening and a file run 255 alone.
+type Leaves = fn(u8) -> bool;
+const EACH: Leaves = |refusal| refusal != 0;
+const ONLY_WRONG_FORM: Leaves = |refusal| refusal == WRONG_FORM;
+
+/// Lends each call a list of its own that holds `before`; answers and lists must be the same, and left as they were where `leaves` says
+/// so, also where both would err alike. Hands back the first one's.
+fn compare_lent<A: Answer, T: Item>(
+    before: &[T],
+    first: impl FnOnce(&mut [T]) -> A,
+    second: impl FnOnce(&mut [T]) -> A,
+    leaves: Leaves,
+    input: impl Fn() -> String,
+) -> Result<(A, Vec<T>), String> {
+    let (mut one, mut two) = (before.to_vec(), before.to_vec());
+    let (answer, answer_2) = (first(&mut one), second(&mut two));
+    same(answer, answer_2, &input)?;
+    same_list(&one, &two, || format!("{}, answered {answer:?}", input()))?;
+    if leaves(answer.refusal()) {
+        same_list(&one, before, || format!("{}, refused {answer:?} and written all the same (second: before)", input()))?;
+    }
+    Ok((answer, one))
+}
+
+/// The month records of a claim into a list of `length` numbers.
+pub fn compare_listing(first: Date, last: Date, claim: &Claim, length: usize) -> Result<(u64, Vec<i32>), String> {
+    compare_record_listing(first, last, &claim_record(claim), length)
+}
+
+pub fn compare_record_listing(first: Date, last: Date, record: &[u8], length: usize) -> Result<(u64, Vec<i32>), String> {
+    compare_lent(
+        &pattern(length),
+        |list| ffi::listing(first.to_number(), last.to_number(), record, list),
+        |list| match read_claim(record) {
+            None => u64::refused(WRONG_FORM),
+            Some(claim) => wide_answer(listing(first, last, &claim, list).map(|count| count as u64)),
+        },
+        EACH,
+        || format!("window {first} to {last}, {}, list of {length} numbers", described(record)),
+    )
+}
+
+/// A record as a claim and as bytes.
+fn described(record: &[u8]) -> String {
+    let claim = read_claim(record).map_or("no record".into(), |claim| claim.to_string());
+    format!("{claim}, bytes {}", hex(record))
 }
 
 /// Long enough for every listing.
 pub const LONG_LIST: usize = 6 * 1_801;
 
 /// Compares the runs over a file and hands back the first one's numbers.
-pub fn compare_study(file: &[u8], rates: &[u32]) -> Result<[i64; 46], String> {
-    let blank: [i64; 48] = std::array::from_fn(|i| pattern(i) as i64);
-    let mut one = blank;
-    let answer_1 = ffi::study(file, rates, &mut one);
-    let run = run_file(file, rates);
-    let mut two = blank;
-    two[..46].copy_from_slice(&run.numbers());
-    same((answer_1, &one), (run.refused, &two), || format!("file\n{}rates {}", hex(file), list(rates)))?;
-    Ok(one[..46].try_into().unwrap())
+pub fn compare_file_study(file: &[u8], rates: &[u32]) -> Result<[i64; 46], String> {
+    let (_, numbers) = compare_lent(
+        &pattern(48),
+        |out| ffi::file_study(file, rates, out),
+        |out| {
+            let run = run_file(file, rates);
+            out[..46].copy_from_slice(&run.numbers());
+            run.refused
+        },
+        ONLY_WRONG_FORM,
+        || format!("file\n{}rates {}", hex(file), list(rates)),
+    )?;
+    Ok(numbers[..46].try_into().unwrap())
 }
 
 /// Opens with both into a list of `length` numbers; the answer and the first one's list.
 pub fn compare_open(first: Date, last: Date, length: usize) -> Result<(u8, Vec<i64>), String> {
-    let blank: Vec<i64> = (0..length).map(|i| pattern(i) as i64).collect();
-    let (mut one, mut two) = (blank.clone(), blank);
-    let answer_1 = ffi::open(first.to_number(), last.to_number(), &mut one);
-    let answer_2 = match two.first_chunk_mut::<STUDY_LENGTH>() {
-        None => WRONG_FORM,
-        Some(numbers) => {
-            let opened = Study::open(first, last);
-            *numbers = opened.unwrap_or(Study::unopened()).numbers();
-            answer(&opened)
-        }
-    };
-    same((answer_1, &one), (answer_2, &two), || format!("opening {first} to {last} in a list of {length}"))?;
-    Ok((answer_1, one))
+    compare_lent(
+        &pattern(length),
+        |study| ffi::open(first.to_number(), last.to_number(), study),
+        |study| match study.first_chunk_mut::<STUDY_LENGTH>() {
+            None => WRONG_FORM,
+            Some(numbers) => {
+                let opened = Study::open(first, last);
+                *numbers = opened.unwrap_or(Study::unopened()).numbers();
+                answer(&opened)
+            }
+        },
+        ONLY_WRONG_FORM,
+        || format!("opening {first} to {last} in a list of {length}"),
+    )
 }
 
 /// Adds with both to a study of any numbers, which may be longer or shorter than asked for and has the first one's numbers afterwards.
 pub fn compare_add(study: &mut [i64], record: &[u8], rates: &[u32]) -> Result<u8, String> {
-    let before = study.to_vec();
-    let mut two = before.clone();
-    let answer_1 = ffi::add(study, record, rates);
-    let answer_2 = second_add(&mut two, record, rates);
-    same((answer_1, &*study), (answer_2, &two), || {
-        let claim = read_claim(record).map_or("no claim".into(), |claim| claim.to_string());
-        format!("study {before:?}\n{claim}, record {}rates {}", hex(record), list(rates))
-    })?;
-    // Also where both would err alike.
-    same(answer_1 != 0 && *study != before, false, || format!("refused {answer_1}, study {before:?} written"))?;
-    Ok(answer_1)
+    let (answer, added) = compare_lent(
+        study,
+        |study| ffi::add(study, record, rates),
+        |study| second_add(study, record, rates),
+        EACH,
+        || format!("study {study:?}\n{}rates {}", described(record), list(rates)),
+    )?;
+    study.copy_from_slice(&added);
+    Ok(answer)
 }
 
 fn second_add(study: &mut [i64], record: &[u8], rates: &[u32]) -> u8 {
@@ -109,32 +216,39 @@ fn second_add(study: &mut [i64], record: &[u8], rates: &[u32]) -> u8 {
     answer(&added)
 }
 
-/// Reads block 0 with both into a list of `length` numbers.
-pub fn compare_read_window(block: &[u8], length: usize) -> Result<u8, String> {
-    let blank: Vec<u32> = (0..length).map(|i| pattern(i) as u32).collect();
-    let (mut one, mut two) = (blank.clone(), blank);
-    let answer_1 = ffi::read_window(block, &mut one);
-    let answer_2 = match (two.first_chunk_mut::<2>(), read_block(block, 0)) {
-        (None, _) => WRONG_FORM,
-        (Some(dates), Ok(Block::Window(first, last))) => {
-            *dates = [first.to_number(), last.to_number()];
-            0
-        }
-        _ => Refusal::Block.number(),
-    };
-    same((answer_1, &one), (answer_2, &two), || format!("the window of a block into {length} numbers\n{}", hex(block)))?;
-    Ok(answer_1)
+/// Reads block 0 with both into a list of `length` numbers; the answer and the first one's list.
+pub fn compare_read_window(block: &[u8], length: usize) -> Result<(u8, Vec<u32>), String> {
+    compare_lent(
+        &pattern(length),
+        |dates| ffi::read_window(block, dates),
+        |dates| match (dates.first_chunk_mut::<2>(), read_block(block, 0)) {
+            (None, _) => WRONG_FORM,
+            (Some(dates), Ok(Block::Window(first, last))) => {
+                *dates = [first.to_number(), last.to_number()];
+                0
+            }
+            _ => Refusal::Block.number(),
+        },
+        EACH,
+        || format!("the window of a block into {length} numbers\n{}", hex(block)),
+    )
 }
 
 pub fn compare_factor(group: u8, terminations: u32, expected: i64) -> Result<(), String> {
-    let blank: [u64; 4] = std::array::from_fn(pattern);
-    let (mut one, mut two) = (blank, blank);
-    let answer_1 = ffi::factor(group, terminations, expected, &mut one);
-    let result = factor(group, terminations, expected);
-    if let Ok(Factor { z, m, t }) = result {
-        two[..3].copy_from_slice(&[z, m, t]);
-    }
-    same((answer_1, one), (answer(&result), two), || format!("group {group}, C {terminations}, E {expected}"))
+    compare_lent(
+        &pattern(4),
+        |out| ffi::factor(group, terminations, expected, out),
+        |out| {
+            let result = factor(group, terminations, expected);
+            if let Ok(Factor { z, m, t }) = result {
+                out[..3].copy_from_slice(&[z, m, t]);
+            }
+            answer(&result)
+        },
+        EACH,
+        || format!("group {group}, C {terminations}, E {expected}"),
+    )?;
+    Ok(())
 }
 
 /// The first implementation's z, m and T.
@@ -144,82 +258,67 @@ pub fn first_factor(group: u8, c: u32, e: i64) -> Factor {
     Factor { z: out[0], m: out[1], t: out[2] }
 }
 
-pub fn compare_valuation_rate(rates: &[u32], cell: u8, t: u64, duration: u32) -> Result<(), String> {
-    let answer_1 = ffi::valuation_rate(rates, cell, t, duration);
-    let answer_2 = match valuation_rate(&RateTable::new(rates), cell, t, duration) {
-        Ok(rate) => rate as u64,
-        Err(refusal) => REFUSED + refusal.number() as u64,
-    };
-    same(answer_1, answer_2, || format!("T {t}, cell {cell}, duration {duration}, rates {}", list(rates)))
+pub fn compare_valuation_rate(rates: &[u32], cell: u32, t: u64, duration: u32) -> Result<u64, String> {
+    let answer = ffi::valuation_rate(rates, cell, t, duration);
+    let answer_2 = wide_answer(valuation_rate(&RateTable::new(rates), cell, t, duration).map(u64::from));
+    same(answer, answer_2, || format!("T {t}, cell {cell}, duration {duration}, rates {}", list(rates)))?;
+    Ok(answer)
 }
 
-/// Bit for bit.
-pub fn compare_reserve_factor(rates: &[u32], cell: u8, first: u32, t: &[u64; 5], months: u32, v: f64) -> Result<(), String> {
-    let blank: [f64; 2] = std::array::from_fn(|i| f64::from_bits(pattern(i) >> 2));
-    let (mut one, mut two) = (blank, blank);
-    let answer_1 = ffi::reserve_factor(rates, cell, first, t, months, v, &mut one);
-    let result = reserve_factor(&RateTable::new(rates), cell, first, t, months, v);
-    if let Ok(value) = result {
-        two[0] = value;
-    }
-    same((answer_1, one.map(f64::to_bits)), (answer(&result), two.map(f64::to_bits)), || {
-        let bits = v.to_bits();
-        format!("cell {cell}, first {first}, T {t:?}, N {months}, V {v:e} (bits {bits:#x}), rates {}", list(rates))
-    })
-}
-
-pub fn claim_numbers(claim: &Claim) -> [u32; 8] {
-    [
-        claim.number,
-        claim.disability.to_number(),
-        claim.bcd.to_number(),
-        claim.termination.to_number(),
-        claim.maximum.to_number(),
-        claim.status as u32,
-        claim.code as u32,
-        claim.cell as u32,
-    ]
-}
-
-pub fn compare_read_block(block: &[u8], due: u32) -> Result<(), String> {
-    let blank: [u32; 123] = std::array::from_fn(|i| pattern(i) as u32);
-    let (mut one, mut two) = (blank, blank);
-    let answer_1 = ffi::read_block(block, due, &mut one);
-    let result = read_block(block, due);
-    match &result {
-        Ok(Block::Window(first, last)) => two[..3].copy_from_slice(&[0, first.to_number(), last.to_number()]),
-        Ok(Block::Claims(read)) => {
-            two[0] = read.count as u32;
-            for (numbers, claim) in two[1..121].chunks_exact_mut(8).zip(&read.claims) {
-                numbers.copy_from_slice(&claim_numbers(claim));
+pub fn compare_reserve_factor(rates: &[u32], cell: u32, first: u32, t: &[u64; 5], months: u32, v: f64) -> Result<u8, String> {
+    let (answer, _) = compare_lent(
+        &pattern(2),
+        |out| ffi::reserve_factor(rates, cell, first, t, months, v, out),
+        |out| {
+            let result = reserve_factor(&RateTable::new(rates), cell, first, t, months, v);
+            if let Ok(value) = result {
+                out[0] = value;
             }
-        }
-        Err(_) => {}
-    }
-    same((answer_1, one), (answer(&result), two), || format!("block due {due}\n{}", hex(block)))
+            answer(&result)
+        },
+        EACH,
+        || {
+            let bits = v.to_bits();
+            format!("cell {cell}, first {first}, T {t:?}, N {months}, V {v:e} (bits {bits:#x}), rates {}", list(rates))
+        },
+    )?;
+    Ok(answer)
 }
 
-/// Writes with both into a list of `length` bytes and hands back what was written.
-pub fn compare_write_block(number: u32, claims: &[Claim], length: usize) -> Result<Vec<u8>, String> {
-    let numbers: Vec<u32> = claims.iter().flat_map(claim_numbers).collect();
-    let blank: Vec<u8> = (0..length).map(|i| pattern(i) as u8).collect();
-    let (mut one, mut two) = (blank.clone(), blank);
-    let answer_1 = ffi::write_block(number, claims.len() as u32, &numbers, &mut one);
-    let answer_2 = answer(&write_block(number, claims, &mut two));
-    same((answer_1, &one), (answer_2, &two), || {
-        let claims: Vec<String> = claims.iter().map(Claim::to_string).collect();
-        format!("writing block {number} of {length} bytes\n{}", claims.join("\n"))
-    })?;
-    Ok(one)
+/// Reads a block with both into a list of `length` bytes; the answer and the first one's list.
+pub fn compare_read_block(block: &[u8], due: u32, length: usize) -> Result<(u64, Vec<u8>), String> {
+    compare_lent(
+        &pattern(length),
+        |claims| ffi::read_block(block, due, claims),
+        |claims| match claims.first_chunk_mut::<RECORDS_LENGTH>() {
+            None => u64::refused(WRONG_FORM),
+            Some(records) => wide_answer(read_records(block, due, records).map(|count| count as u64)),
+        },
+        EACH,
+        || format!("block due {due} into {length} bytes\n{}", hex(block)),
+    )
+}
+
+/// Writes records with both into a list of `length` bytes; the answer and the first one's list.
+pub fn compare_write_block(number: u32, records: &[u8], length: usize) -> Result<(u8, Vec<u8>), String> {
+    compare_lent(
+        &pattern(length),
+        |block| ffi::write_block(number, records, block),
+        |block| answer(&write_records(number, records, block)),
+        EACH,
+        || format!("writing block {number} of {length} bytes, records {}", hex(records)),
+    )
 }
 
 pub fn compare_write_window(first: Date, last: Date, length: usize) -> Result<Vec<u8>, String> {
-    let blank: Vec<u8> = (0..length).map(|i| pattern(i) as u8).collect();
-    let (mut one, mut two) = (blank.clone(), blank);
-    let answer_1 = ffi::write_window(first.to_number(), last.to_number(), &mut one);
-    let answer_2 = answer(&write_window(first, last, &mut two));
-    same((answer_1, &one), (answer_2, &two), || format!("writing the window {first} to {last} into {length} bytes"))?;
-    Ok(one)
+    let (_, block) = compare_lent(
+        &pattern(length),
+        |block| ffi::write_window(first.to_number(), last.to_number(), block),
+        |block| answer(&write_window(first, last, block)),
+        EACH,
+        || format!("writing the window {first} to {last} into {length} bytes"),
+    )?;
+    Ok(block)
 }
 
 /// Bytes as lines of 32, lines of zeros left out.

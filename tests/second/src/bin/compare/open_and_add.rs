@@ -1,6 +1,6 @@
 //! A study as a list: opened, added to claim by claim, and with any numbers in it; and the window of a claim file's block 0.
 
-use crate::inputs::{closed_claim, flat_rates, sound_claims, STUDY_WINDOW};
+use crate::inputs::{closed_claim, flat_rates, sound_claims, spoil_record, STUDY_WINDOW};
 use crate::one_input::{compare_add, compare_open, compare_read_window, same, WRONG_FORM};
 use crate::{test, Outcome, Test};
 use second::block::{claim_record, seal, write_block, write_window, BLOCK_LENGTH, CLAIM_LENGTH, ZEROS_AT};
@@ -218,7 +218,7 @@ fn any_numbers(rng: &mut Rng) -> Outcome {
         }
         let mut record = claim_record(&claim).to_vec();
         match rng.below(20) {
-            0 => record[rng.range(ZEROS_AT as i64, CLAIM_LENGTH as i64 - 1) as usize] = rng.range(1, 255) as u8,
+            0 => spoil_record(rng, &mut record),
             1 => record.truncate(rng.pick(&[0, 1, 23, 31])),
             2 => record.resize(rng.pick(&[33, 36, 64]), rng.pick(&[0, 1, 255])),
             _ => {}
@@ -372,7 +372,7 @@ fn read_windows(rng: &mut Rng) -> Outcome {
         for bit in 0..8 {
             let mut damaged = block.clone();
             damaged[at] ^= 1 << bit;
-            same(compare_read_window(&damaged, 2)?, BLOCK, || format!("byte {at} damaged"))?;
+            same(compare_read_window(&damaged, 2)?.0, BLOCK, || format!("byte {at} damaged"))?;
             seal(&mut damaged);
             compare_read_window(&damaged, 2)?;
             n += 2;
@@ -392,14 +392,14 @@ fn read_windows(rng: &mut Rng) -> Outcome {
             damage_file(rng, &mut block);
         }
         let length = rng.pick(&[0, 1, 2, 2, 2, 3, 4]);
-        let answer = compare_read_window(&block, length)?;
+        let (answer, _) = compare_read_window(&block, length)?;
         same(answer == WRONG_FORM, length < 2, || format!("a window into {length} numbers: {answer}"))?;
         n += 1;
     }
     for length in [0, 1, 24, 510, 511, 513, 1_024] {
         block.resize(length, 0);
-        same(compare_read_window(&block, 2)?, BLOCK, || format!("a block of {length} bytes"))?;
-        same(compare_read_window(&block, 1)?, WRONG_FORM, || format!("a block of {length} bytes, a list of 1"))?;
+        same(compare_read_window(&block, 2)?.0, BLOCK, || format!("a block of {length} bytes"))?;
+        same(compare_read_window(&block, 1)?.0, WRONG_FORM, || format!("a block of {length} bytes, a list of 1"))?;
         n += 2;
     }
     Ok(n)

@@ -1,7 +1,7 @@
 //! Valuation: z, m and T, the valuation rate and the reserve factor.
 
 use crate::inputs::{any_length, flat_rates};
-use crate::one_input::{compare_factor, compare_reserve_factor, compare_valuation_rate, first_factor};
+use crate::one_input::{compare_factor, compare_reserve_factor, compare_valuation_rate, first_factor, same, Answer};
 use crate::{test, Outcome, Test};
 use second::generate::{damage_rates, sound_rates};
 use second::rng::Rng;
@@ -15,10 +15,14 @@ pub const TESTS: &[Test] = &[
     test("valuation rate: random", 23, valuation_rate_random),
     test("valuation rate: at whole millionths and at one", 24, valuation_rate_bounds),
     test("valuation rate: refused", 25, valuation_rate_refused),
+    test("valuation rate: cells not in the table", 50, valuation_rate_missing_cells),
     test("reserve factor: random", 26, reserve_random),
     test("reserve factor: discounts of all kinds", 27, reserve_discounts),
     test("reserve factor: refused", 28, reserve_refused),
+    test("reserve factor: cells not in the table", 51, reserve_missing_cells),
 ];
+
+const CELL: u8 = 7;
 
 fn terminations(rng: &mut Rng) -> u32 {
     match rng.below(4) {
@@ -110,7 +114,7 @@ fn valuation_rate_random(rng: &mut Rng) -> Outcome {
         let rates = sound_rates(rng, cells);
         for _ in 0..100 {
             let t = if rng.one_in(2) { any_length(rng) } else { rng.below(3_000_000) };
-            compare_valuation_rate(&rates, rng.below(cells as u64) as u8, t, rng.range(2, 480) as u32)?;
+            compare_valuation_rate(&rates, rng.below(cells as u64) as u32, t, rng.range(2, 480) as u32)?;
             n += 1;
         }
     }
@@ -137,6 +141,44 @@ fn valuation_rate_bounds(rng: &mut Rng) -> Outcome {
     Ok(n)
 }
 
+/// A cell that a table of `cells` cells has not, often with the low byte or the low bytes of one that it has.
+fn missing_cell(rng: &mut Rng, cells: usize) -> u32 {
+    let there = rng.below(cells as u64) as u32;
+    match rng.below(6) {
+        0 => rng.pick(&[cells as u32, 64, 255, 256, 65_535, 65_536, 1 << 31, u32::MAX]),
+        1 => there + rng.pick(&[1 << 8, 1 << 16, 1 << 24, 1 << 31]),
+        2 => there + ((rng.range(1, 0xff) as u32) << 8),
+        3 => there + ((rng.range(1, 0xffff) as u32) << 16),
+        4 => there + ((rng.range(1, 0xff_ffff) as u32) << 8),
+        _ => rng.range(cells as i64, u32::MAX as i64) as u32,
+    }
+}
+
+/// Sound tables of some sizes, each with cells that it has not. `call` gives the answer.
+fn missing_cells<A: Answer>(rng: &mut Rng, call: impl Fn(&mut Rng, &[u32], u32) -> Result<A, String>) -> Outcome {
+    let mut n = 0;
+    for cells in [1, 2, 3, 16, 63, 64] {
+        let rates = sound_rates(rng, cells);
+        for _ in 0..5_000 {
+            let cell = missing_cell(rng, cells);
+            same(call(rng, &rates, cell)?, A::refused(CELL), || format!("cell {cell} of {cells}"))?;
+            n += 1;
+        }
+    }
+    Ok(n)
+}
+
+fn valuation_rate_missing_cells(rng: &mut Rng) -> Outcome {
+    missing_cells(rng, |rng, rates, cell| compare_valuation_rate(rates, cell, any_length(rng), rng.range(0, 482) as u32))
+}
+
+fn reserve_missing_cells(rng: &mut Rng) -> Outcome {
+    missing_cells(rng, |rng, rates, cell| {
+        let (first, months) = (rng.range(0, 482) as u32, rng.range(0, 482) as u32);
+        compare_reserve_factor(rates, cell, first, &five_t(rng), months, rng.pick(&[0.5, 1.0, 0.0, f64::NAN]))
+    })
+}
+
 fn valuation_rate_refused(rng: &mut Rng) -> Outcome {
     let n = 12_000;
     for _ in 0..n {
@@ -146,7 +188,8 @@ fn valuation_rate_refused(rng: &mut Rng) -> Outcome {
         }
         let any = rng.below(600) as u32;
         let duration = rng.pick(&[0, 1, 2, 480, 481, 482, u32::MAX, any]);
-        compare_valuation_rate(&rates, rng.pick(&[0, 1, 2, 63, 64, 255]), any_length(rng), duration)?;
+        let cell = if rng.one_in(2) { missing_cell(rng, 2) } else { rng.below(2) as u32 };
+        compare_valuation_rate(&rates, cell, any_length(rng), duration)?;
     }
     Ok(n)
 }
@@ -170,13 +213,13 @@ fn discount(rng: &mut Rng) -> f64 {
 
 fn reserve_random(rng: &mut Rng) -> Outcome {
     let mut n = 0;
-    for _ in 0..250 {
+    for _ in 0..1_000 {
         let cells = rng.range(1, 3) as usize;
         let rates = sound_rates(rng, cells);
-        for _ in 0..40 {
+        for _ in 0..60 {
             let first = if rng.one_in(3) { rng.pick(&[2, 3, 4, 24, 25, 60, 61, 120, 121, 479, 480]) } else { rng.range(2, 480) as u32 };
             let months = if rng.one_in(3) { rng.pick(&[0, 1, 2, 479, 480]) } else { rng.range(0, 480) as u32 };
-            let (cell, t, v) = (rng.below(cells as u64) as u8, five_t(rng), discount(rng));
+            let (cell, t, v) = (rng.below(cells as u64) as u32, five_t(rng), discount(rng));
             compare_reserve_factor(&rates, cell, first, &t, months, v)?;
             n += 1;
         }
@@ -214,7 +257,7 @@ fn reserve_discounts(rng: &mut Rng) -> Outcome {
             n += 1;
         }
     }
-    for _ in 0..10_000 {
+    for _ in 0..15_000 {
         // Any bits, or a subnormal.
         let v = if rng.one_in(2) { f64::from_bits(rng.bits()) } else { f64::from_bits(rng.bits() & 0x800f_ffff_ffff_ffff) };
         compare_reserve_factor(&rates, 0, rng.range(2, 480) as u32, &five_t(rng), rng.range(0, 20) as u32, v)?;
@@ -230,7 +273,7 @@ fn reserve_refused(rng: &mut Rng) -> Outcome {
         if rng.one_in(3) {
             damage_rates(rng, &mut rates);
         }
-        let cell = rng.pick(&[0, 0, 1, 1, 2, 64, 255]);
+        let cell = if rng.one_in(3) { missing_cell(rng, 2) } else { rng.below(2) as u32 };
         let first = rng.pick(&[0, 1, 2, 2, 2, 480, 480, 481, u32::MAX]);
         let months = rng.pick(&[0, 1, 5, 480, 481, 1 << 31, u32::MAX]);
         let v = rng.pick(&[0.5, 0.5, 1.0, 0.0, 1.5, f64::NAN]);

@@ -1,7 +1,7 @@
 //! Windows: the parts of a window total the whole, through the first implementation.
 
 use crate::inputs::{file_of, sound_claims, sound_study};
-use crate::one_input::{answer, compare_study, hex, list, same};
+use crate::one_input::{answer, compare_file_study, hex, list, same};
 use crate::{test, Outcome, Test};
 use second::calendar::{Date, Day};
 use second::generate::{claim_file, damage_claim, damage_rates, sound_claim, sound_rates};
@@ -32,10 +32,10 @@ fn check_parts(
     mut file_in: impl FnMut((Date, Date)) -> Vec<u8>,
 ) -> Result<(), String> {
     let file = file_in(whole);
-    let numbers = compare_study(&file, rates)?;
+    let numbers = compare_file_study(&file, rates)?;
     let mut total = [0; 40];
     for &part in parts {
-        let part_numbers = compare_study(&file_in(part), rates)?;
+        let part_numbers = compare_file_study(&file_in(part), rates)?;
         let run = |numbers: &[i64; 46]| [numbers[0], numbers[1], numbers[2], numbers[5]];
         same(run(&part_numbers), run(&numbers), || {
             format!("number, block, place and claims taken in the part {} to {} and the whole, file\n{}", part.0, part.1, hex(&file))
