@@ -3,6 +3,8 @@
 //! A date is the claim file's four bytes as one number, a claim its record, the claim file's 32 bytes. A refusal is the number of document
 //! 01's table, with 2^32 added where the answer has 64 bits; 255 says that a lent list has not the length or form asked for.
 
+use std::ptr::{null, null_mut};
+
 mod c {
     #[link(name = "c_abi", kind = "static")]
     extern "C" {
@@ -44,57 +46,74 @@ mod c {
 // In every wrapper pointer and length come from one slice, and the header promises that no call keeps a pointer or writes outside the
 // lent lists.
 
+/// A list without elements is handed over as null.
+fn head<T>(list: &[T]) -> *const T {
+    if list.is_empty() {
+        null()
+    } else {
+        list.as_ptr()
+    }
+}
+
+fn head_mut<T>(list: &mut [T]) -> *mut T {
+    if list.is_empty() {
+        null_mut()
+    } else {
+        list.as_mut_ptr()
+    }
+}
+
 /// The study of a window into `study` (43 numbers).
 pub fn open(first: u32, last: u32, study: &mut [i64]) -> u8 {
-    unsafe { c::ltd_open(first, last, study.as_mut_ptr(), study.len()) }
+    unsafe { c::ltd_open(first, last, head_mut(study), study.len()) }
 }
 
 /// A claim's record added to `study` (43 numbers).
 pub fn add(study: &mut [i64], claim: &[u8], rates: &[u32]) -> u8 {
-    unsafe { c::ltd_add(study.as_mut_ptr(), study.len(), claim.as_ptr(), claim.len(), rates.as_ptr(), rates.len()) }
+    unsafe { c::ltd_add(head_mut(study), study.len(), head(claim), claim.len(), head(rates), rates.len()) }
 }
 
 /// The dates of block 0's window into `dates` (2 numbers).
 pub fn read_window(block: &[u8], dates: &mut [u32]) -> u8 {
-    unsafe { c::ltd_read_window(block.as_ptr(), block.len(), dates.as_mut_ptr(), dates.len()) }
+    unsafe { c::ltd_read_window(head(block), block.len(), head_mut(dates), dates.len()) }
 }
 
 /// The month records of a claim's record, six numbers each into `list`: how many, or 2^32 + the number refused.
 pub fn listing(first: u32, last: u32, claim: &[u8], list: &mut [i32]) -> u64 {
-    unsafe { c::ltd_listing(first, last, claim.as_ptr(), claim.len(), list.as_mut_ptr(), list.len()) }
+    unsafe { c::ltd_listing(first, last, head(claim), claim.len(), head_mut(list), list.len()) }
 }
 
 /// The study of a whole claim file into `out` (46 numbers).
 pub fn file_study(file: &[u8], rates: &[u32], out: &mut [i64]) -> u8 {
-    unsafe { c::ltd_file_study(file.as_ptr(), file.len(), rates.as_ptr(), rates.len(), out.as_mut_ptr(), out.len()) }
+    unsafe { c::ltd_file_study(head(file), file.len(), head(rates), rates.len(), head_mut(out), out.len()) }
 }
 
 /// z, m and T into `out` (3 numbers).
 pub fn factor(group: u8, terminations: u32, expected: i64, out: &mut [u64]) -> u8 {
-    unsafe { c::ltd_factor(group, terminations, expected, out.as_mut_ptr(), out.len()) }
+    unsafe { c::ltd_factor(group, terminations, expected, head_mut(out), out.len()) }
 }
 
 /// The valuation rate, or 2^32 + the number refused.
 pub fn valuation_rate(rates: &[u32], cell: u32, t: u64, duration: u32) -> u64 {
-    unsafe { c::ltd_valuation_rate(rates.as_ptr(), rates.len(), cell, t, duration) }
+    unsafe { c::ltd_valuation_rate(head(rates), rates.len(), cell, t, duration) }
 }
 
 /// The reserve factor into `out` (1 number), `t` five numbers.
 pub fn reserve_factor(rates: &[u32], cell: u32, first: u32, t: &[u64], months: u32, v: f64, out: &mut [f64]) -> u8 {
-    unsafe { c::ltd_reserve_factor(rates.as_ptr(), rates.len(), cell, first, t.as_ptr(), t.len(), months, v, out.as_mut_ptr(), out.len()) }
+    unsafe { c::ltd_reserve_factor(head(rates), rates.len(), cell, first, head(t), t.len(), months, v, head_mut(out), out.len()) }
 }
 
 /// The records of a block at the number due into `claims` (480 bytes): how many, or 2^32 + the number refused.
 pub fn read_block(block: &[u8], due: u32, claims: &mut [u8]) -> u64 {
-    unsafe { c::ltd_read_block(block.as_ptr(), block.len(), due, claims.as_mut_ptr(), claims.len()) }
+    unsafe { c::ltd_read_block(head(block), block.len(), due, head_mut(claims), claims.len()) }
 }
 
 /// Records, one after the other, as a block.
 pub fn write_block(number: u32, claims: &[u8], block: &mut [u8]) -> u8 {
-    unsafe { c::ltd_write_block(number, claims.as_ptr(), claims.len(), block.as_mut_ptr(), block.len()) }
+    unsafe { c::ltd_write_block(number, head(claims), claims.len(), head_mut(block), block.len()) }
 }
 
 /// A window's dates as block 0.
 pub fn write_window(first: u32, last: u32, block: &mut [u8]) -> u8 {
-    unsafe { c::ltd_write_window(first, last, block.as_mut_ptr(), block.len()) }
+    unsafe { c::ltd_write_window(first, last, head_mut(block), block.len()) }
 }
