@@ -5,17 +5,21 @@ use mathlib.Core.Path.{_≡_, refl, sym, ap, _∙_}
 use mathlib.Core.Bool.{Bool, true}
 use native.Mathlib.Omega.{arith}
 use borrow.Author.Tests.{eqb-true}
-use lib.Dec.{ltb, eqb}
-use Rattle.basics.specs.Pick.{pick}
+use lib.Dec.{eqb}
 use Rattle.calendar.specs.Calendar.{leapYear, monthLength, indexLength, daysBefore, firstMonth}
 use Rattle.basics.proofs.Tests.{allBelow, all-at}
 
--- the days of a year before its month r (from 0), q years after 1950
-abbrev pub inYear : ℕ → ℕ → ℕ
-inYear q r = pick (ltb r 2) (31 * r) (pick (eqb (q % 4) 2) ((367 * r + 5) / 12 - 1) ((367 * r + 5) / 12 - 2))
+-- the days of q years and r months from March 1949 on: a year's leap day is its last
+abbrev fromMarch : ℕ → ℕ → ℕ
+fromMarch q r = 365 * q + (q + 1) / 4 + (153 * r + 2) / 5
 
 abbrev pub closed : ℕ → ℕ
-closed k = 1461 * (k / 12 + 1) / 4 - 365 + inYear (k / 12) (k % 12)
+closed k = fromMarch ((k + 10) / 12) ((k + 10) % 12) - 306
+
+-- ten months, to January 1950, have 306 days
+pub ten-months : (q r : ℕ) → 10 ≤ 12 * q + r → 306 ≤ fromMarch q r
+ten-months zero r h = omega arith
+ten-months (suc q) r h = omega arith
 
 steps : ℕ → Bool
 steps k = eqb (closed (suc k)) (closed k + indexLength (firstMonth + k))

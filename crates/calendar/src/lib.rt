@@ -94,17 +94,11 @@ fn days_before(months: u32) -> u32
     requires { ⌜ months ≤ 1801 ⌝ }
     ensures { λ r. ⌜ r ≡ daysBefore months ⌝ }
 {
-    let years = months / 12;
-    let month = months % 12;
-    // Each fourth year to 2099 is a leap year: 1952, 1956, ..
-    let start = 1461 * (years + 1) / 4 - 365;
-    if month < 2 {
-        return start + 31 * month;
-    }
-    if years % 4 == 2 {
-        return start + (367 * month + 5) / 12 - 1;
-    }
-    start + (367 * month + 5) / 12 - 2
+    // Years from March on have the leap day at their end. Each fourth year to 2099 is a leap year: 1952, 1956, ..
+    let from_march = months + 10;
+    let years = from_march / 12;
+    let month = from_march % 12;
+    365 * years + (years + 1) / 4 + (153 * month + 2) / 5 - 306
 }
 
 // The day number of a date.

@@ -1,30 +1,20 @@
--- `calendar::days_before` meets its contract: each way out is the closed form at the tests that lead there.
+-- `calendar::days_before` meets its contract: it computes the closed form.
 -- Assumes nothing.
+use Prim.Native.Nat.{_+_, _/_, _%_}
 use native.Mathlib.Omega.{arith}
 use borrow.Author.Needs.{needs}
-use borrow.Author.Tests.{lt-ltb, le-ltb, eq-eqb, ne-eqb}
-use Rattle.calendar.proofs.Closed.{days-closed}
+use Rattle.calendar.proofs.Closed.{ten-months, days-closed}
 use Rattle.calendar.proofs.days_before.Statement.{statement}
 use Rattle.calendar.proofs.days_before.Tie as tie
 
+sub-result : tie.Need-sub-result
+sub-result c = omega (arith, ten-months ((c .args .months + 10) / 12) ((c .args .months + 10) % 12) (omega arith))
+
 returns : tie.Need-returns
-returns c = simp (days-closed _ (c .before .pre), lt-ltb _ _ (c .if1 .taken))
-
-returns-2 : tie.Need-returns-2
-returns-2 c =
-    simp
-    (days-closed _ (c .before .before .pre), le-ltb _ _ (c .before .if1 .left), eq-eqb _ _ (c .if2 .taken))
-    (omega arith)
-
-returns-3 : tie.Need-returns-3
-returns-3 c =
-    simp
-    (days-closed _ (c .before .before .pre), le-ltb _ _ (c .before .if1 .left), ne-eqb _ _ (c .if2 .left))
-    (omega arith)
+returns c = omega (arith, days-closed (c .args .months) (c .pre))
 
 pub days-before-spec : {M : Type 1} → statement M
 days-before-spec =
     tie.close
-    (tie.spec (λ c. search needs) (λ c. search needs) (λ c. search needs) (λ c. search needs) (λ c. search needs) returns (λ c. search needs)
-    (λ c. search needs) (λ c. search needs) (λ c. search needs) returns-2 (λ c. search needs) (λ c. search needs) (λ c. search needs)
-    (λ c. search needs) returns-3)
+    (tie.spec (λ c. search needs) (λ c. search needs) (λ c. search needs) (λ c. search needs) (λ c. search needs) (λ c. search needs)
+    (λ c. search needs) sub-result returns)
