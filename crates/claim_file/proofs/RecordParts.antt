@@ -1,8 +1,8 @@
 -- Records by their fields and as the tests of their calls come out, and the definitions of blocks step by step as the code's loops go.
 -- Assumes nothing.
 use Prim.Native.Nat.{ℕ, suc, _+_, _-_, _*_, _≤_, _<_}
-use mathlib.Core.Path.{_≡_, ap, _∙_}
-use mathlib.Core.Bool.{Bool, true, false, _&&_, and-true, and-false}
+use mathlib.Core.Path.{_≡_, refl, sym, ap, _∙_}
+use mathlib.Core.Bool.{Bool, true, false, _&&_, and-true, and-false, and-assoc}
 use mathlib.Core.List.{List}
 use native.Mathlib.Omega.{arith}
 use native.Mathlib.Nat.{mul-le-mul}
@@ -10,7 +10,9 @@ use native.Mathlib.Numerals.{add-one}
 use lib.ListN.{length}
 use lib.Seq.{sets}
 use lib.Dec.{eqb}
-use borrow.Author.Tests.{eq-eqb, ne-eqb}
+use lib.Bits.{bitOr, or-add-and, and-le-l, and-le-r}
+use borrow.Author.Tests.{eq-eqb, ne-eqb, eqb-false}
+use Rattle.basics.proofs.Tests.{by, tests}
 use Rattle.claim_months.specs.declared.Claim.{Claim}
 use Rattle.claim_file.specs.Bytes.{byteAt, zeroFrom}
 use Rattle.claim_file.specs.declared.MaybeClaim.the-variants.{Found, NoRecord}
@@ -54,24 +56,34 @@ module _ (bytes : List ℕ) (i : ℕ) where
   unfolding recordAfter
   record-stored c e = rw e
 
--- a zero part from its byte i on: a zero byte leaves the rest to decide, another byte refuses
-zero-step : (bytes : List ℕ) (from count i : ℕ) → i < count
-    → zeroFrom bytes (from + i) (count - i) ≡ (eqb (byteAt bytes (from + i)) 0 && zeroFrom bytes (from + (i + 1)) (count - (i + 1)))
+-- two numbers are zero exactly where their bits together are
+or-zero : (a b : ℕ) → (eqb a 0 && eqb b 0) ≡ eqb (bitOr a b) 0
+or-zero a b =
+    let s = or-add-and a b in
+    let l = and-le-l a b in
+    let r = and-le-r a b in
+    by (eqb (bitOr a b) 0) (λ t. (eqb a 0 && eqb b 0) ≡ t)
+    (λ e. let p : a ≡ 0 = omega tests in let q : b ≡ 0 = omega tests in rw (eq-eqb _ _ p, eq-eqb _ _ q))
+    (λ e.
+    by (eqb a 0) (λ t. (t && eqb b 0) ≡ false)
+    (λ f. ne-eqb b 0 (λ g. eqb-false (bitOr a b) 0 e (omega tests)))
+    (λ f. refl))
+
+-- a part whose first i bytes have the bits `all` together: with the next byte, at j, its first i + 1 bytes have both bits
+pub zero-step : (bytes : List ℕ) (from count i j all : ℕ) → i < count → j ≡ from + i
+    → (eqb all 0 && zeroFrom bytes (from + i) (count - i)) ≡ (eqb (bitOr all (byteAt bytes j)) 0 && zeroFrom bytes (from + (i + 1)) (count - (i + 1)))
 unfolding zeroFrom
-zero-step bytes from count i h =
+zero-step bytes from count i j all h k =
     let e : count - i ≡ suc (count - (i + 1)) = omega arith in
     let g : suc (from + i) ≡ from + (i + 1) = omega arith in
-    ap (zeroFrom bytes (from + i)) e ∙ ap (λ (k : ℕ). eqb (byteAt bytes (from + i)) 0 && zeroFrom bytes k (count - (i + 1))) g
+    let rest = zeroFrom bytes (from + (i + 1)) (count - (i + 1)) in
+    ap (λ (n : ℕ). eqb all 0 && zeroFrom bytes (from + i) n) e
+    ∙ ap (λ (n : ℕ). eqb all 0 && (eqb (byteAt bytes (from + i)) 0 && zeroFrom bytes n (count - (i + 1)))) g
+    ∙ ap (λ (n : ℕ). eqb all 0 && (eqb (byteAt bytes n) 0 && rest)) (sym k)
+    ∙ sym (and-assoc (eqb all 0) (eqb (byteAt bytes j) 0) rest)
+    ∙ ap (λ (t : Bool). t && rest) (or-zero all (byteAt bytes j))
 
-pub zero-on : (bytes : List ℕ) (from count i : ℕ) → i < count → byteAt bytes (from + i) ≡ 0
-    → zeroFrom bytes (from + i) (count - i) ≡ zeroFrom bytes (from + (i + 1)) (count - (i + 1))
-zero-on bytes from count i h e = rw (zero-step bytes from count i h, eq-eqb _ _ e)
-
-pub zero-off : (bytes : List ℕ) (from count i : ℕ) → i < count → (byteAt bytes (from + i) ≡ 0 → ⊥)
-    → zeroFrom bytes (from + i) (count - i) ≡ false
-zero-off bytes from count i h e = rw (zero-step bytes from count i h, ne-eqb _ _ e)
-
--- the same of the padding of claims, from the last one on
+-- the padding of claims, from the last one on: a padded claim leaves the rest to decide, another refuses
 padded-step : (bytes : List ℕ) (n : ℕ) → 0 < n
     → claimsPadded bytes n ≡ (claimsPadded bytes (n - 1) && recordPadded bytes (16 + 32 * (n - 1)))
 unfolding claimsPadded

@@ -41,12 +41,11 @@ pub(crate) fn all_zero(bytes: &[u8], from: usize, count: usize) -> bool
     requires { ⌜ from + count ≤ length (now bytes) ⌝ }
     ensures { λ r. ⌜ r ≡ zeroFrom (now (bytes .entry)) from count ⌝ }
 {
+    let mut all = 0;
     for i in 0..count {
-        if bytes[from + i] != 0 {
-            return false;
-        }
+        all |= bytes[from + i];
     }
-    true
+    all == 0
 }
 
 // Stores a number in two bytes, low byte first.
