@@ -4,7 +4,7 @@ use Prim.Native.Nat.{ℕ, zero, suc, zero-le, _+_, _-_, _*_, _≤_}
 use mathlib.Core.Path.{_≡_, refl, sym, ap, ap₂, _∙_}
 use mathlib.Core.Bool.{Bool, true, false, cond}
 use native.Mathlib.Omega.{arith}
-use lib.IntN.{ℤ, pos, negsuc, natAbs, negℤ, subℕ, _+ℤ_, _-ℤ_, _*ℤ_, +ℤ-idl, +ℤ-idr, +ℤ-assoc, +ℤ-comm, +ℤ-invr, +ℤ-invl, sucℤ-*ℤ, zero-*ℤ, -ℤ-+ℤ-cancel, +ℤ-negℤ-cancel}
+use lib.IntN.{ℤ, pos, negsuc, natAbs, negℤ, predℤ, subℕ, _+ℤ_, _-ℤ_, _*ℤ_, +ℤ-idl, +ℤ-idr, +ℤ-assoc, +ℤ-comm, +ℤ-invr, +ℤ-invl, sucℤ-*ℤ, predℤ-*ℤ, zero-*ℤ, *ℤ-zero, *ℤ-negsuc, negℤ-negℤ, negℤ-+ℤ, -ℤ-+ℤ-cancel, +ℤ-negℤ-cancel}
 use borrow.Author.Tests.{le-ltb}
 use lib.Dec.{ltb}
 use Rattle.basics.proofs.Tests.{tests, by}
@@ -36,11 +36,39 @@ pub plus-minus : (x y : ℤ) → (x +ℤ y) -ℤ y ≡ x
 plus-minus x y = +ℤ-negℤ-cancel x y
 
 -- a product with a sum
-pub times-sum : (w : ℕ) (x y : ℤ) → pos w *ℤ (x +ℤ y) ≡ pos w *ℤ x +ℤ pos w *ℤ y
-times-sum zero x y = zero-*ℤ (x +ℤ y) ∙ sym (ap₂ (λ (a b : ℤ). a +ℤ b) (zero-*ℤ x) (zero-*ℤ y))
-times-sum (suc w) x y =
-    sucℤ-*ℤ (pos w) (x +ℤ y) ∙ ap (λ (a : ℤ). a +ℤ (x +ℤ y)) (times-sum w x y) ∙ interchange (pos w *ℤ x) (pos w *ℤ y) x y
+one-less : (m x y : ℤ) → m *ℤ (x +ℤ y) ≡ m *ℤ x +ℤ m *ℤ y → predℤ m *ℤ (x +ℤ y) ≡ predℤ m *ℤ x +ℤ predℤ m *ℤ y
+one-less m x y e =
+    predℤ-*ℤ m (x +ℤ y) ∙ ap₂ (λ (a b : ℤ). a +ℤ b) e (negℤ-+ℤ x y) ∙ interchange (m *ℤ x) (m *ℤ y) (negℤ x) (negℤ y)
+    ∙ sym (ap₂ (λ (a b : ℤ). a +ℤ b) (predℤ-*ℤ m x) (predℤ-*ℤ m y))
+
+times-pos : (w : ℕ) (x y : ℤ) → pos w *ℤ (x +ℤ y) ≡ pos w *ℤ x +ℤ pos w *ℤ y
+times-pos zero x y = zero-*ℤ (x +ℤ y) ∙ sym (ap₂ (λ (a b : ℤ). a +ℤ b) (zero-*ℤ x) (zero-*ℤ y))
+times-pos (suc w) x y =
+    sucℤ-*ℤ (pos w) (x +ℤ y) ∙ ap (λ (a : ℤ). a +ℤ (x +ℤ y)) (times-pos w x y) ∙ interchange (pos w *ℤ x) (pos w *ℤ y) x y
     ∙ sym (ap₂ (λ (a b : ℤ). a +ℤ b) (sucℤ-*ℤ (pos w) x) (sucℤ-*ℤ (pos w) y))
+
+times-neg : (w : ℕ) (x y : ℤ) → negsuc w *ℤ (x +ℤ y) ≡ negsuc w *ℤ x +ℤ negsuc w *ℤ y
+times-neg zero x y = one-less (pos 0) x y (times-pos 0 x y)
+times-neg (suc w) x y = one-less (negsuc w) x y (times-neg w x y)
+
+pub times-sum : (w x y : ℤ) → w *ℤ (x +ℤ y) ≡ w *ℤ x +ℤ w *ℤ y
+times-sum (pos w) = times-pos w
+times-sum (negsuc w) = times-neg w
+
+-- a product with an opposite, and with a difference
+pub times-neg-of : (m k : ℤ) → m *ℤ negℤ k ≡ negℤ (m *ℤ k)
+times-neg-of m (pos zero) = *ℤ-zero m ∙ sym (ap negℤ (*ℤ-zero m))
+times-neg-of m (pos (suc n)) = *ℤ-negsuc m n
+times-neg-of m (negsuc n) = sym (ap negℤ (*ℤ-negsuc m n) ∙ negℤ-negℤ (m *ℤ pos (suc n)))
+
+pub times-difference : (w x y : ℤ) → w *ℤ (x -ℤ y) ≡ w *ℤ x -ℤ w *ℤ y
+times-difference w x y = times-sum w x (negℤ y) ∙ ap (λ (z : ℤ). w *ℤ x +ℤ z) (times-neg-of w y)
+
+-- a difference with u in it that lacks something of n
+pub sub-short : (u b n : ℕ) → u ≤ n → subℕ u b ≡ pos n -ℤ pos b -ℤ pos (n - u)
+sub-short u b n h =
+    let s : subℕ n u ≡ pos (n - u) = rw (le-ltb n u h) refl in
+    sym (ap (λ (z : ℤ). z -ℤ pos (n - u)) (sym (sub-is n b) ∙ sym (sub-chain b u n) ∙ ap (λ (z : ℤ). subℕ u b +ℤ z) s) ∙ plus-minus (subℕ u b) (pos (n - u)))
 
 -- sizes of a difference, a sum and a product
 pub size-sub : (a b n : ℕ) → a ≤ n → b ≤ n → natAbs (subℕ a b) ≤ n
@@ -58,6 +86,8 @@ size-neg (pos zero) = refl
 size-neg (pos (suc n)) = refl
 size-neg (negsuc n) = refl
 
-pub size-product : (w : ℕ) (z : ℤ) → natAbs (pos w *ℤ z) ≡ w * natAbs z
-size-product w (pos b) = refl
-size-product w (negsuc b) = size-neg (pos (w * suc b))
+pub size-product : (w z : ℤ) → natAbs (w *ℤ z) ≡ natAbs w * natAbs z
+size-product (pos w) (pos b) = refl
+size-product (pos w) (negsuc b) = size-neg (pos (w * suc b))
+size-product (negsuc w) (pos b) = size-neg (pos (suc w * b))
+size-product (negsuc w) (negsuc b) = refl

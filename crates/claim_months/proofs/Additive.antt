@@ -57,22 +57,22 @@ module _ (c : Claim) (ok : Sound c) where
       ∙ sub-same (settledBefore c k b)))
 
   -- one claim month more
-  weighted-step : (w : ℕ → ℕ) (b e k n : ℕ)
-      → weighted w (recordsFrom c b e k (suc n)) ≡ pos (w (firstDuration c + (k - 1))) *ℤ share c b e k +ℤ weighted w (recordsFrom c b e (suc k) n)
+  weighted-step : (w : ℕ → ℤ) (b e k n : ℕ)
+      → weighted w (recordsFrom c b e k (suc n)) ≡ w (firstDuration c + (k - 1)) *ℤ share c b e k +ℤ weighted w (recordsFrom c b e (suc k) n)
   unfolding weighted recordsFrom monthRecord
   weighted-step w b e k n =
       let rest = recordsFrom c b e (suc k) n in
       by (meets c b e k)
       (λ y. weighted w (pick y (monthRecord c b e k ∷ rest) rest)
-      ≡ pos (w (firstDuration c + (k - 1))) *ℤ pick y (thirtieths (monthRecord c b e k)) (pos 0) +ℤ weighted w rest)
+      ≡ w (firstDuration c + (k - 1)) *ℤ pick y (thirtieths (monthRecord c b e k)) (pos 0) +ℤ weighted w rest)
       (λ y. refl)
       (λ y.
       sym
-      (ap (λ (x : ℤ). x +ℤ weighted w rest) (*ℤ-zero (pos (w (firstDuration c + (k - 1)))))
+      (ap (λ (x : ℤ). x +ℤ weighted w rest) (*ℤ-zero (w (firstDuration c + (k - 1))))
       ∙ +ℤ-idl (weighted w rest)))
 
   -- a window cut between day m and the next, over the n claim months from k on
-  cut-from : (w : ℕ → ℕ) (b m e : ℕ) → b ≤ m → m < e → (n k : ℕ) → 1 ≤ k
+  cut-from : (w : ℕ → ℤ) (b m e : ℕ) → b ≤ m → m < e → (n k : ℕ) → 1 ≤ k
       → weighted w (recordsFrom c b m k n) +ℤ weighted w (recordsFrom c (m + 1) e k n) ≡ weighted w (recordsFrom c b e k n)
   unfolding weighted recordsFrom
   cut-from w b m e bm me zero k hk = refl
@@ -81,10 +81,10 @@ module _ (c : Claim) (ok : Sound c) where
       let x = share c b m k in
       let y = share c (m + 1) e k in
       ap₂ (λ (u v : ℤ). u +ℤ v) (weighted-step w b m k n) (weighted-step w (m + 1) e k n)
-      ∙ interchange (pos d *ℤ x) (weighted w (recordsFrom c b m (suc k) n)) (pos d *ℤ y) (weighted w (recordsFrom c (m + 1) e (suc k) n))
+      ∙ interchange (d *ℤ x) (weighted w (recordsFrom c b m (suc k) n)) (d *ℤ y) (weighted w (recordsFrom c (m + 1) e (suc k) n))
       ∙ ap₂ (λ (u v : ℤ). u +ℤ v)
       (sym (times-sum d x y)
-      ∙ ap (λ (u : ℤ). pos d *ℤ u)
+      ∙ ap (λ (u : ℤ). d *ℤ u)
       (ap₂ (λ (u v : ℤ). u +ℤ v) (share-settled b m k bm hk) (share-settled (m + 1) e k (omega tests) hk)
       ∙ sub-chain (settledBefore c k b) (settledBefore c k (m + 1)) (settledBefore c k (e + 1))
       ∙ sym (share-settled b e k (omega tests) hk)))
@@ -92,7 +92,7 @@ module _ (c : Claim) (ok : Sound c) where
       ∙ sym (weighted-step w b e k n)
 
   -- the window b..e cut between day m and the next
-  pub cut-weighted : (w : ℕ → ℕ) (b m e : ℕ) → b ≤ m → m < e
+  pub cut-weighted : (w : ℕ → ℤ) (b m e : ℕ) → b ≤ m → m < e
       → weighted w (monthRecords c b m) +ℤ weighted w (monthRecords c (m + 1) e) ≡ weighted w (monthRecords c b e)
   unfolding monthRecords
   cut-weighted w b m e bm me = cut-from w b m e bm me 1800 1 (omega tests)

@@ -7,7 +7,7 @@ use mathlib.Core.Bool.{true, false, _&&_, false≢true}
 use mathlib.Core.List.{List}
 use mathlib.Core.Logic.{_⊎_, inl, inr, ⊎-elim}
 use lib.Dec.{leb}
-use lib.IntN.{_+ℤ_}
+use lib.IntN.{ℤ, _+ℤ_}
 use Rattle.basics.proofs.Tests.{tests, and-false-cases}
 use Rattle.claim_months.specs.declared.Claim.{Claim}
 use Rattle.claim_months.specs.declared.Window.{Window}
@@ -20,7 +20,7 @@ use Rattle.claim_months.proofs.Closing.{closed-of, cut-closings, closed
 use Rattle.claim_months.proofs.Parts.{SoundParts, Holds, every-part, parts-total, outside-parts, inside-parts, no-part, one-part}
 
 module _ {A : Type 0} (win : A → Window) (c : Claim) where
-  pub parts-weighted : Sound c → (f : ℕ → ℕ) (b e : ℕ) (w : A) (ws : List A) → SoundParts win b e w ws
+  pub parts-weighted : Sound c → (f : ℕ → ℤ) (b e : ℕ) (w : A) (ws : List A) → SoundParts win b e w ws
       → total _+ℤ_ (λ (v : A). weighted f (monthRecords c (win v .first .0) (win v .last .0))) w ws ≡ weighted f (monthRecords c b e)
   parts-weighted ok f = parts-total win _+ℤ_ (λ b e. weighted f (monthRecords c b e)) (cut-weighted c ok f)
 

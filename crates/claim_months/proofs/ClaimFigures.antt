@@ -5,6 +5,7 @@ use Prim.Native.Nat.{ℕ, _+_}
 use mathlib.Core.Path.{_≡_, refl, ap, _∙_}
 use mathlib.Core.Bool.{Bool, true, _&&_, and-eq-true-iff}
 use lib.Dec.{leb}
+use lib.IntN.{pos}
 use native.Mathlib.Nat.{add-zero}
 use Rattle.calendar.specs.declared.Date.{Date}
 use Rattle.calendar.specs.Calendar.{leapYear, monthLength, isDate, monthIndex, indexLength, daysBefore, monthStart, dayNumber}
@@ -34,7 +35,7 @@ holding c b e k m =
 -- so its records are those of claim months k to k + m, and their sums are the span's
 exposed : (c : Claim) (first last : Date) (b e k m : ℕ) (sp : Span) → dayNumber first ≡ b → dayNumber last ≡ e → ep c ≡ 90
     → exposureCheck c b e ≡ 0 → holding c b e k m ≡ true → runSpan c b e k m ≡ sp
-    → Exposed c first last (spanThirtieths sp 0) (spanThirtieths sp m) (spanWeighted (λ d. 1) sp (sp .months))
+    → Exposed c first last (spanThirtieths sp 0) (spanThirtieths sp m) (spanWeighted (λ d. pos 1) sp (sp .months))
 unfolding run
 exposed c first last b e k m sp x y z q h g =
     let p = checks-passed c b e q in
@@ -51,8 +52,8 @@ exposed c first last b e k m sp x y z q h g =
       last-record = rw (x, y, rs, ← g) (ap thirtieths (run-last c b e m k) ∙ same m (omega tests));
       total =
           rw (x, y)
-          (span-weighted c ok b e (w .last) (λ d. 1)
-          ∙ ap (λ (s : Span). spanWeighted (λ d. 1) s (s .months)) (ap spanOf rs ∙ span-run c b e k m ∙ g));
+          (span-weighted c ok b e (w .last) (λ d. pos 1)
+          ∙ ap (λ (s : Span). spanWeighted (λ d. pos 1) s (s .months)) (ap spanOf rs ∙ span-run c b e k m ∙ g));
     }
 
 -- a span: first duration, months, B of the first, U and category of the last

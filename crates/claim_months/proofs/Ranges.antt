@@ -7,7 +7,7 @@ use mathlib.Core.Bool.{Bool, true, false, _||_, cond, and-eq-true-iff}
 use mathlib.Core.List.{List, [], _∷_}
 use lib.Dec.{leb, ltb, eqb, le→leb}
 use lib.ListN.{length}
-use lib.IntN.{pos, negsuc, natAbs, _*ℤ_}
+use lib.IntN.{ℤ, pos, negsuc, natAbs, _*ℤ_}
 use lib.Signed.{_≤ℤ_, leZ-yes}
 use native.Mathlib.Nat.{add-zero, mul-le-mul, mul-suc}
 use Rattle.basics.specs.Pick.{pick}
@@ -44,7 +44,7 @@ record-size c b e k =
     size-sub (monthU c b e (monthFirst c k) (monthLast c k)) (monthB b (monthFirst c k) (monthLast c k)) 30
     (U-high c b e (monthFirst c k) (monthLast c k)) (B-high b (monthFirst c k) (monthLast c k))
 
-size-from : (w : ℕ → ℕ) (m : ℕ) → ((d : ℕ) → w d ≤ m) → (c : Claim) (b e n k : ℕ) → natAbs (weighted w (recordsFrom c b e k n)) ≤ m * 30 * n
+size-from : (w : ℕ → ℤ) (m : ℕ) → ((d : ℕ) → natAbs (w d) ≤ m) → (c : Claim) (b e n k : ℕ) → natAbs (weighted w (recordsFrom c b e k n)) ≤ m * 30 * n
 unfolding recordsFrom weighted
 size-from w m h c b e zero k = omega tests
 size-from w m h c b e (suc n) k =
@@ -54,13 +54,13 @@ size-from w m h c b e (suc n) k =
     let s = mul-suc (m * 30) n in
     by (meets c b e k) (λ y. natAbs (weighted w (pick y (r ∷ rest) rest)) ≤ m * 30 * suc n)
     (λ q.
-    let t = size-sum (pos (w (r .duration)) *ℤ thirtieths r) (weighted w rest) in
+    let t = size-sum (w (r .duration) *ℤ thirtieths r) (weighted w rest) in
     let p = size-product (w (r .duration)) (thirtieths r) in
-    let u : w (r .duration) * natAbs (thirtieths r) ≤ m * 30 = mul-le-mul (h (r .duration)) (record-size c b e k) in
+    let u : natAbs (w (r .duration)) * natAbs (thirtieths r) ≤ m * 30 = mul-le-mul (h (r .duration)) (record-size c b e k) in
     omega tests)
     (λ q. omega tests)
 
-pub weighted-size : (w : ℕ → ℕ) (m : ℕ) → ((d : ℕ) → w d ≤ m) → (c : Claim) (b e : ℕ) → natAbs (weighted w (monthRecords c b e)) ≤ m * 30 * 1800
+pub weighted-size : (w : ℕ → ℤ) (m : ℕ) → ((d : ℕ) → natAbs (w d) ≤ m) → (c : Claim) (b e : ℕ) → natAbs (weighted w (monthRecords c b e)) ≤ m * 30 * 1800
 unfolding monthRecords
 weighted-size w m h c b e = size-from w m h c b e 1800 1
 

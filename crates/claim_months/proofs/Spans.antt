@@ -39,19 +39,19 @@ sum-same f g zero h = refl
 sum-same f g (suc n) h = ap₂ (λ (x y : ℤ). x +ℤ y) (sum-same f g n (λ j k. h j (omega tests))) (h n (omega tests))
 
 -- the weighted sum over a run of months
-run-weighted : (c : Claim) (b e : ℕ) (w : ℕ → ℕ) (n k : ℕ) → 1 ≤ k
-    → weighted w (run c b e k n) ≡ sumTo (λ j. pos (w (firstDuration c + (k - 1) + j)) *ℤ thirtieths (monthRecord c b e (k + j))) n
+run-weighted : (c : Claim) (b e : ℕ) (w : ℕ → ℤ) (n k : ℕ) → 1 ≤ k
+    → weighted w (run c b e k n) ≡ sumTo (λ j. w (firstDuration c + (k - 1) + j) *ℤ thirtieths (monthRecord c b e (k + j))) n
 unfolding weighted run sumTo monthRecord
 run-weighted c b e w zero k hk = refl
 run-weighted c b e w (suc n) k hk =
     let d = firstDuration c + (k - 1) in
-    let first : (i j : ℕ) → i ≡ j → (x y : ℕ) → x ≡ y → pos (w i) *ℤ thirtieths (monthRecord c b e x) ≡ pos (w j) *ℤ thirtieths (monthRecord c b e y) =
-    λ i j p x y q. ap₂ (λ (u v : ℕ). pos (w u) *ℤ thirtieths (monthRecord c b e v)) p q in
+    let first : (i j : ℕ) → i ≡ j → (x y : ℕ) → x ≡ y → w i *ℤ thirtieths (monthRecord c b e x) ≡ w j *ℤ thirtieths (monthRecord c b e y) =
+    λ i j p x y q. ap₂ (λ (u v : ℕ). w u *ℤ thirtieths (monthRecord c b e v)) p q in
     ap₂ (λ (u v : ℤ). u +ℤ v) (first d (d + 0) (sym (add-zero d)) k (k + 0) (sym (add-zero k)))
     (run-weighted c b e w n (suc k) (omega tests)
     ∙ sum-same _ _ n
     (λ j l. first (firstDuration c + (suc k - 1) + j) (d + suc j) (omega tests) (suc k + j) (k + suc j) (omega tests)))
-    ∙ sym (sum-front (λ j. pos (w (d + j)) *ℤ thirtieths (monthRecord c b e (k + j))) n)
+    ∙ sym (sum-front (λ j. w (d + j) *ℤ thirtieths (monthRecord c b e (k + j))) n)
 
 -- the last record of a run
 pub run-last : (c : Claim) (b e m k : ℕ) → lastRecord (monthRecord c b e k) (run c b e (suc k) m) ≡ monthRecord c b e (k + m)
@@ -231,13 +231,13 @@ by-runs c ok b e h P none some =
     (λ q. subst⁻¹ P (records-none c ok b e (leb-false (exposedFrom c b) (exposedTo c e) q)) none)
 
 -- the span's sums are the records' sums
-abbrev pub SameWeighted : (ℕ → ℕ) → List MonthRecord → Type 0
+abbrev pub SameWeighted : (ℕ → ℤ) → List MonthRecord → Type 0
 SameWeighted w rs = weighted w rs ≡ spanWeighted w (spanOf rs) (spanOf rs .months)
 
 abbrev pub SameClosings : (ℕ → ℕ → ℕ) → List MonthRecord → Type 0
 SameClosings w rs = closings w rs ≡ spanClosing w (spanOf rs)
 
-weighted-none : (w : ℕ → ℕ) → SameWeighted w []
+weighted-none : (w : ℕ → ℤ) → SameWeighted w []
 unfolding weighted spanWeighted spanOf sumTo
 weighted-none w = refl
 
@@ -245,14 +245,14 @@ closings-none : (w : ℕ → ℕ → ℕ) → SameClosings w []
 unfolding closings spanClosing spanOf
 closings-none w = refl
 
-weighted-some : (c : Claim) → Sound c → (b e : ℕ) (w : ℕ → ℕ) (k m : ℕ) → Runs c b e k m → SameWeighted w (run c b e k (suc m))
+weighted-some : (c : Claim) → Sound c → (b e : ℕ) (w : ℕ → ℤ) (k m : ℕ) → Runs c b e k m → SameWeighted w (run c b e k (suc m))
 unfolding spanWeighted
 weighted-some c ok b e w k m r =
     rw (span-run c b e k m)
     (run-weighted c b e w (suc m) k (r .low)
     ∙ sum-same _ _ (suc m)
     (λ j l.
-    ap (λ (x : ℤ). pos (w (firstDuration c + (k - 1) + j)) *ℤ x) (month-thirtieths c ok b e k m r j l)))
+    ap (λ (x : ℤ). w (firstDuration c + (k - 1) + j) *ℤ x) (month-thirtieths c ok b e k m r j l)))
 
 closings-some : (c : Claim) → Sound c → (b e : ℕ) (w : ℕ → ℕ → ℕ) (k m : ℕ) → Runs c b e k m → SameClosings w (run c b e k (suc m))
 unfolding spanClosing
@@ -260,7 +260,7 @@ closings-some c ok b e w k m r =
     let e1 : suc m - 1 ≡ m = omega tests in
     rw (span-run c b e k m, e1) (rw (add-zero k) at (closings-run c ok b e k m r w m 0 (omega tests)))
 
-pub span-weighted : (c : Claim) → Sound c → (b e : ℕ) → e ≤ lastDayNumber → (w : ℕ → ℕ) → SameWeighted w (monthRecords c b e)
+pub span-weighted : (c : Claim) → Sound c → (b e : ℕ) → e ≤ lastDayNumber → (w : ℕ → ℤ) → SameWeighted w (monthRecords c b e)
 span-weighted c ok b e h w = by-runs c ok b e h (SameWeighted w) (weighted-none w) (weighted-some c ok b e w)
 
 pub span-closings : (c : Claim) → Sound c → (b e : ℕ) → e ≤ lastDayNumber → (w : ℕ → ℕ → ℕ) → SameClosings w (monthRecords c b e)

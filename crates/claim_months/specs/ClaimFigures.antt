@@ -27,7 +27,7 @@ pub record Exposed (c : Claim) (b e : Date) (first last all : ℤ) : Type 0 wher
   pub accepted : exposureCheck c (dayNumber b) (dayNumber e) ≡ 0
   pub first-record : firstThirtieths (monthRecords c (dayNumber b) (dayNumber e)) ≡ first
   pub last-record : lastThirtieths (monthRecords c (dayNumber b) (dayNumber e)) ≡ last
-  pub total : weighted (λ d. 1) (monthRecords c (dayNumber b) (dayNumber e)) ≡ all
+  pub total : weighted (λ d. pos 1) (monthRecords c (dayNumber b) (dayNumber e)) ≡ all
 
 abbrev pub date : ℕ → ℕ → ℕ → Date
 date y m d = record { year = y; month = m; day = d }

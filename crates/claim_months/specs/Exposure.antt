@@ -79,9 +79,9 @@ unfoldable pub monthRecords : Claim → ℕ → ℕ → List MonthRecord
 monthRecords c b e = recordsFrom c b e 1 1800
 
 -- the sum over records of thirtieths, each times a weight of its duration
-unfoldable pub weighted : (ℕ → ℕ) → List MonthRecord → ℤ
+unfoldable pub weighted : (ℕ → ℤ) → List MonthRecord → ℤ
 weighted w [] = pos 0
-weighted w (r ∷ rs) = pos (w (r .duration)) *ℤ thirtieths r +ℤ weighted w rs
+weighted w (r ∷ rs) = w (r .duration) *ℤ thirtieths r +ℤ weighted w rs
 
 -- the sum over closing months of a weight of duration and category
 unfoldable pub closings : (ℕ → ℕ → ℕ) → List MonthRecord → ℕ

@@ -1,20 +1,23 @@
 -- The laws of the rate table, for the crates above: they cite these and never unfold the table's definitions.
 -- Assumes nothing.
-use Prim.Native.Nat.{ℕ, zero, suc, _+_, _*_, _≤_, _<_}
-use mathlib.Core.Path.{_≡_, refl, subst}
-use mathlib.Core.Bool.{Bool, true, false}
+use Prim.Native.Nat.{ℕ, zero, suc, _+_, _*_, _≤_, _<_, max}
+use mathlib.Core.Path.{_≡_, subst}
+use mathlib.Core.Bool.{true, false}
 use mathlib.Core.List.{List}
 use mathlib.Core.Logic.{⊎-elim}
 use native.Mathlib.Nat.{not-suc-le-zero, le-of-suc-le-suc, eq-or-lt-of-le}
 use native.Mathlib.Omega.{arith}
-use borrow.Author.Tests.{leb-true}
+use borrow.Author.Tests.{leb-true, le-leb, lt-leb}
 use lib.ListN.{getD}
 use lib.Dec.{leb, ltb}
+use lib.IntN.{ℤ, _+ℤ_}
 use Rattle.basics.specs.Pick.{pick}
 use Rattle.basics.specs.Checks.{check}
+use Rattle.basics.specs.Series.{sumTo}
 use Rattle.basics.proofs.Checks.{check-passed, then-passed}
-use Rattle.basics.proofs.Tests.{and-left, and-right}
-use Rattle.rates.specs.Rates.{place, recoveryRate, deathRate, tableSound, ratesSoundTo, ratesSound, cells, rateCheck, groupOf}
+use Rattle.basics.proofs.Tests.{tests, by, and-left, and-right}
+use Rattle.rates.specs.Rates.{place, recoveryRate, deathRate, tableSound, ratesSoundTo, ratesSound, cells, rateCheck, groupOf, groupLast}
+use Rattle.rates.specs.Prepared.{ratesOver}
 
 -- recovery and death rate of a cell together
 abbrev pub bothRates : List ℕ → ℕ → ℕ → ℕ
@@ -31,20 +34,25 @@ sound-at rates cell (suc m) k e h =
     (λ (l : k < m). sound-at rates cell m k (and-left (ratesSoundTo rates cell m) _ e) l)
     (eq-or-lt-of-le (le-of-suc-le-suc h))
 
--- what passing the checks 6 to 8 says of the last of them
-last-passed : (rates : List ℕ) (cell : ℕ) → rateCheck rates cell ≡ 0 → ratesSound rates cell ≡ true
+-- what passing the checks 6 to 8 says
+pub all-passed :
+    (rates : List ℕ) (cell : ℕ) → rateCheck rates cell ≡ 0
+    → (tableSound rates ≡ true) × (ltb cell (cells rates) ≡ true) × (ratesSound rates cell ≡ true)
 unfolding rateCheck
-last-passed rates cell e =
+all-passed rates cell e =
     let p = then-passed (check (tableSound rates) 6) _ e in
-    let q = then-passed (check (ltb cell (cells rates)) 7) _ (p .1) in
-    check-passed (ratesSound rates cell) 8 (omega arith) (q .1)
+    let q = then-passed (check (ltb cell (cells rates)) 7) _ (p .1) in (
+      check-passed (tableSound rates) 6 (omega arith) (p .0),
+      check-passed (ltb cell (cells rates)) 7 (omega arith) (q .0),
+      check-passed (ratesSound rates cell) 8 (omega arith) (q .1),
+    )
 
 -- every duration has the place of one of the 479 that the check looks at
 place-again : (d : ℕ) → place (place d + 2) ≡ place d
 unfolding place
 place-again d = omega arith
 
-place-below : (d : ℕ) → place d < 479
+pub place-below : (d : ℕ) → place d < 479
 unfolding place
 place-below d = omega arith
 
@@ -54,7 +62,7 @@ module _ (rates : List ℕ) (cell d : ℕ) (passed : rateCheck rates cell ≡ 0)
   rates-bound =
       subst (λ (p : ℕ). getD rates (cell * 958 + p) 0 + getD rates (cell * 958 + 479 + p) 0 ≤ 1000000) (place-again d)
       (sound-at rates cell 479 (place d)
-      (last-passed rates cell passed) (place-below d))
+      (all-passed rates cell passed .2) (place-below d))
 
   pub recovery-bound : recoveryRate rates cell d ≤ 1000000
   recovery-bound = omega (arith, rates-bound)
@@ -62,18 +70,54 @@ module _ (rates : List ℕ) (cell d : ℕ) (passed : rateCheck rates cell ≡ 0)
   pub death-bound : deathRate rates cell d ≤ 1000000
   death-bound = omega (arith, rates-bound)
 
+-- the five groups of a duration with their last durations, each with the durations it has
+module _ (d : ℕ) (P : ℕ → ℕ → Type 0) where
+  by-group :
+      (d ≤ 3 → P 1 3) → (3 < d → d ≤ 24 → P 2 24) → (24 < d → d ≤ 60 → P 3 60) → (60 < d → d ≤ 120 → P 4 120)
+      → (120 < d → P 5 4294967295) → P (groupOf d) (groupLast d)
+  unfolding groupOf groupLast
+  by-group p1 p2 p3 p4 p5 =
+      at 3 1 (λ e. p1 (omega tests)) (λ a.
+      at 24 2 (λ e. p2 (omega tests) (omega tests)) (λ b.
+      at 60 3 (λ e. p3 (omega tests) (omega tests)) (λ c.
+      at 120 4 (λ e. p4 (omega tests) (omega tests)) (λ e. p5 (omega tests)))))
+    where
+      at : {g l : ℕ} (cut k : ℕ) → (leb d cut ≡ true → P k cut) → (leb d cut ≡ false → P g l) → P (pick (leb d cut) k g) (pick (leb d cut) cut l)
+      at {g} {l} cut k = by (leb d cut) (λ t. P (pick t k g) (pick t cut l))
+
 -- what holds of each of the five groups holds of a duration's
 pub each-group : (P : ℕ → Type 0) → P 1 → P 2 → P 3 → P 4 → P 5 → (d : ℕ) → P (groupOf d)
-unfolding groupOf
-each-group P p1 p2 p3 p4 p5 d =
-    either (leb d 3) p1 (either (leb d 24) p2 (either (leb d 60) p3 (either (leb d 120) p4 p5)))
-  where
-    either : {a b : ℕ} (t : Bool) → P a → P b → P (pick t a b)
-    either true p q = p
-    either false p q = q
+each-group P p1 p2 p3 p4 p5 d = by-group d (λ g _. P g) (λ _. p1) (λ _ _. p2) (λ _ _. p3) (λ _ _. p4) (λ _. p5)
 
 pub group-low : (d : ℕ) → 1 ≤ groupOf d
 group-low = each-group (λ g. 1 ≤ g) (omega arith) (omega arith) (omega arith) (omega arith) (omega arith)
 
 pub group-high : (d : ℕ) → groupOf d ≤ 5
 group-high = each-group (λ g. g ≤ 5) (omega arith) (omega arith) (omega arith) (omega arith) (omega arith)
+
+-- the durations from one to the last of its group are in that group, and it is one of them
+pub last-from : (d : ℕ) → d ≤ 4294967295 → d ≤ groupLast d
+last-from d h = by-group d (λ _ l. d ≤ l) (λ p. p) (λ _ p. p) (λ _ p. p) (λ _ p. p) (λ _. h)
+
+pub group-same : (d e : ℕ) → d ≤ e → e ≤ groupLast d → groupOf e ≡ groupOf d
+unfolding groupOf
+group-same d e h =
+    by-group d (λ g l. e ≤ l → groupOf e ≡ g)
+    (λ p q. simp (le-leb e 3 (omega arith)))
+    (λ o p q. simp (lt-leb e 3 (omega arith), le-leb e 24 (omega arith)))
+    (λ o p q. simp (lt-leb e 3 (omega arith), lt-leb e 24 (omega arith), le-leb e 60 (omega arith)))
+    (λ o p q. simp (lt-leb e 3 (omega arith), lt-leb e 24 (omega arith), lt-leb e 60 (omega arith), le-leb e 120 (omega arith)))
+    (λ o q. simp (lt-leb e 3 (omega arith), lt-leb e 24 (omega arith), lt-leb e 60 (omega arith), lt-leb e 120 (omega arith)))
+
+-- the rates over n durations from one on that isn't before 2: each adds its own
+module _ (rate : ℕ → ℤ) (d n : ℕ) (h : 2 ≤ d) where
+  from-itself : max d 2 ≡ d
+  from-itself = omega arith
+
+  pub over-is : ratesOver rate d n ≡ sumTo (λ j. rate (d + j)) n
+  unfolding ratesOver
+  over-is = rw from-itself
+
+  pub over-more : ratesOver rate d (suc n) ≡ ratesOver rate d n +ℤ rate (d + n)
+  unfolding ratesOver sumTo
+  over-more = rw from-itself

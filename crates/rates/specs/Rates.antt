@@ -24,8 +24,11 @@ unfoldable pub deathRate : List ℕ → ℕ → ℕ → ℕ
 deathRate rates cell d = getD rates (cell * 958 + 479 + place d) 0
 
 -- 6, rate table: length not 958 times 1 to 64
-unfoldable pub tableSound : List ℕ → Bool
-tableSound rates = eqb (length rates % 958) 0 && leb 1 (cells rates) && leb (cells rates) 64
+unfoldable pub lengthSound : ℕ → Bool
+lengthSound n = eqb (n % 958) 0 && leb 1 (n / 958) && leb (n / 958) 64
+
+abbrev pub tableSound : List ℕ → Bool
+tableSound rates = lengthSound (length rates)
 
 -- recovery plus death rate is at most 1,000,000 at the n durations from 2 on
 unfoldable pub ratesSoundTo : List ℕ → ℕ → ℕ → Bool
@@ -47,3 +50,7 @@ rateCheck rates cell =
 -- The duration groups: 1 to 3 months; 4 to 24; 25 to 60; 61 to 120; above
 unfoldable pub groupOf : ℕ → ℕ
 groupOf d = pick (leb d 3) 1 (pick (leb d 24) 2 (pick (leb d 60) 3 (pick (leb d 120) 4 5)))
+
+-- the last duration of a duration's group; a group without a last has 2³² − 1
+unfoldable pub groupLast : ℕ → ℕ
+groupLast d = pick (leb d 3) 3 (pick (leb d 24) 24 (pick (leb d 60) 60 (pick (leb d 120) 120 4294967295)))

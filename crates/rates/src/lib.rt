@@ -3,12 +3,27 @@ ghost use mathlib.Core.Path.{_≡_};
 ghost use Prim.Native.Nat.{_+_, _*_};
 ghost use lib.ListN.{getD};
 ghost use denote.Ref.{now};
-ghost use Rattle.rates.specs.Rates.{place, rateCheck, ratesSound, recoveryRate, deathRate, groupOf};
+ghost use Rattle.rates.specs.Rates.{place, lengthSound, rateCheck, ratesSound, recoveryRate, deathRate, groupOf, groupLast};
+
+pub mod prepared;
+
 use basics::Duration;
 use basics::refusal;
 
+// Whether a lent table holds rates or was prepared.
+pub enum Kind {
+    Plain,
+    Prepared,
+}
+
+// Sums of rates over durations, in millionths.
+pub struct RateSums {
+    pub recoveries: i64,
+    pub deaths: i64,
+}
+
 // The place of a duration among a cell's 479 rates of one kind.
-fn place_of(duration: Duration) -> usize
+pub(crate) fn place_of(duration: Duration) -> usize
     ensures { λ r. ⌜ r ≡ place (duration .0) ⌝ }
 {
     let months = duration.0;
@@ -22,7 +37,7 @@ fn place_of(duration: Duration) -> usize
 }
 
 // The rate of a cell at a duration, of the kind whose rates start `from` places into the cell; 0 past the table.
-fn rate(rates: &[u32], cell: u32, from: u16, duration: Duration) -> u32
+pub(crate) fn rate(rates: &[u32], cell: u32, from: u16, duration: Duration) -> u32
     ensures { λ r. ⌜ r ≡ getD (now (rates .entry)) (cell * 958 + from + place (duration .0)) 0 ⌝ }
 {
     let at = cell as usize * 958 + from as usize + place_of(duration);
@@ -47,7 +62,7 @@ pub fn death(rates: &[u32], cell: u32, duration: Duration) -> u32
 }
 
 // Whether recovery and death rate of a cell are together at most 1,000,000 at each duration from 2 to 480.
-fn sound(rates: &[u32], cell: u32) -> bool
+pub(crate) fn sound(rates: &[u32], cell: u32) -> bool
     ensures { λ r. ⌜ r ≡ ratesSound (now (rates .entry)) cell ⌝ }
 {
     let mut n: u32 = 0;
@@ -62,27 +77,54 @@ fn sound(rates: &[u32], cell: u32) -> bool
     true
 }
 
+// Whether a table may have so many numbers: 958 for each of 1 to 64 cells.
+pub(crate) fn is_table(numbers: usize) -> bool
+    ensures { λ r. ⌜ r ≡ lengthSound numbers ⌝ }
+{
+    let cells = numbers / 958;
+    if numbers % 958 != 0 {
+        return false;
+    }
+    if cells < 1 {
+        return false;
+    }
+    cells <= 64
+}
+
 // The number of the first of the checks 6 to 8 that fails for a table and a cell, or 0.
 pub fn check(rates: &[u32], cell: u32) -> u8
     ensures { λ r. ⌜ r ≡ rateCheck (now (rates .entry)) cell ⌝ }
 {
-    let cells = rates.len() / 958;
-    if rates.len() % 958 != 0 {
+    if !is_table(rates.len()) {
         return refusal::RATE_TABLE;
     }
-    if cells < 1 {
-        return refusal::RATE_TABLE;
-    }
-    if cells > 64 {
-        return refusal::RATE_TABLE;
-    }
-    if cell as usize >= cells {
+    if cell as usize >= rates.len() / 958 {
         return refusal::CELL;
     }
     if sound(rates, cell) {
         return 0;
     }
     refusal::RATE
+}
+
+// The last duration of a duration's group; a group without a last has 2^32 - 1.
+pub fn group_last(duration: Duration) -> Duration
+    ensures { λ r. ⌜ r .0 ≡ groupLast (duration .0) ⌝ }
+{
+    let months = duration.0;
+    if months < 4 {
+        return Duration(3);
+    }
+    if months < 25 {
+        return Duration(24);
+    }
+    if months < 61 {
+        return Duration(60);
+    }
+    if months < 121 {
+        return Duration(120);
+    }
+    Duration(4294967295)
 }
 
 // The group of a duration, 1 to 5.

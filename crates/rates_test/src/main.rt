@@ -1,5 +1,8 @@
-// Prints what the rate table's checks, look-ups and groups answer at their edges.
+// Prints what the rate table's checks, look-ups and groups answer at their edges, and what preparing makes of a table.
 ghost use Prim.Native.Nat.{_<_};
+
+mod preparing;
+
 use basics::Duration;
 use test_support::lists::counting;
 use test_support::print::put;
@@ -93,6 +96,23 @@ fn put_groups() {
     put(b"\n");
 }
 
+// The last durations of the groups on both sides of a cut.
+fn put_last(last: u32, first: u32) {
+    put_next(rates::group_last(Duration(last)).0 as u64);
+    put_next(rates::group_last(Duration(first)).0 as u64);
+}
+
+fn put_lasts() {
+    put(b"lasts");
+    put_last(0, 1);
+    put_last(3, 4);
+    put_last(24, 25);
+    put_last(60, 61);
+    put_last(120, 121);
+    put_last(4294967295, 4294967295);
+    put(b"\n");
+}
+
 fn main() {
     // Together 1,000,000: no table is refused for a rate.
     put_tables(0, 600000, 400000);
@@ -110,4 +130,7 @@ fn main() {
     put_cell(&table, 256);
     put_cell(&table, 4294967295);
     put_groups();
+    put_lasts();
+    preparing::put_preparing();
+    preparing::put_falling();
 }

@@ -27,7 +27,7 @@ use Rattle.rates.proofs.Laws.{recovery-bound, death-bound}
 use Rattle.study.specs.declared.Study.{Study}
 use Rattle.study.specs.declared.Sums.{Sums}
 use Rattle.study.specs.Sums.{signedEach, each, none, plus, within}
-use Rattle.study.specs.Study.{inGroup, exposure, closingCount, expectedRecoveries, expectedDeaths, recordSums, shareOf, sumOver, studyOf, hasRoom}
+use Rattle.study.specs.Study.{inGroup, groupWeight, exposure, closingCount, expected, recordSums, shareOf, sumOver, studyOf, hasRoom}
 use Rattle.study.specs.Demand3.{ownRefusal}
 use Rattle.study.proofs.Algebra.{Shaped, signed-at, count-at}
 use Rattle.study.proofs.SumOver.{All, sums, good-sum}
@@ -48,25 +48,19 @@ pub group-one : (g d : ℕ) → inGroup g d ≤ 1
 unfolding inGroup
 group-one g d = by (eqb (groupOf d) g) (λ t. pick t 1 0 ≤ 1) (λ q. omega tests) (λ q. omega tests)
 
-group-times : (g d r : ℕ) → r ≤ 1000000 → inGroup g d * r ≤ 1000000
-group-times g d r h = mul-le-mul (group-one g d) h
+-- a weight in one group is no larger than the weight
+group-size : (g m : ℕ) (w : ℕ → ℤ) → ((d : ℕ) → natAbs (w d) ≤ m) → (d : ℕ) → natAbs (groupWeight g w d) ≤ m
+unfolding groupWeight
+group-size g m w h d = by (eqb (groupOf d) g) (λ t. natAbs (pick t (w d) (pos 0)) ≤ m) (λ q. h d) (λ q. omega tests)
 
 -- what one accepted claim adds
 exposure-size : (c : Claim) (b e g : ℕ) → natAbs (exposure g (monthRecords c b e)) ≤ 54000
 unfolding exposure
-exposure-size c b e g = weighted-size (inGroup g) 1 (group-one g) c b e
+exposure-size c b e g = weighted-size (groupWeight g (λ d. pos 1)) 1 (group-size g 1 (λ d. pos 1) (λ d. omega tests)) c b e
 
-recoveries-size : (rates : List ℕ) (c : Claim) → Accepted rates c → (b e g : ℕ) → natAbs (expectedRecoveries rates (c .cell) g (monthRecords c b e)) ≤ 54000000000
-unfolding expectedRecoveries
-recoveries-size rates c h b e g =
-    weighted-size (λ d. inGroup g d * recoveryRate rates (c .cell) d) 1000000
-    (λ d. group-times g d (recoveryRate rates (c .cell) d) (recovery-bound rates (c .cell) d (accepted-rates rates c h))) c b e
-
-deaths-size : (rates : List ℕ) (c : Claim) → Accepted rates c → (b e g : ℕ) → natAbs (expectedDeaths rates (c .cell) g (monthRecords c b e)) ≤ 54000000000
-unfolding expectedDeaths
-deaths-size rates c h b e g =
-    weighted-size (λ d. inGroup g d * deathRate rates (c .cell) d) 1000000
-    (λ d. group-times g d (deathRate rates (c .cell) d) (death-bound rates (c .cell) d (accepted-rates rates c h))) c b e
+expected-size : (rate : ℕ → ℕ) → ((d : ℕ) → rate d ≤ 1000000) → (c : Claim) (b e g : ℕ) → natAbs (expected (λ d. pos (rate d)) g (monthRecords c b e)) ≤ 54000000000
+unfolding expected
+expected-size rate h c b e g = weighted-size (groupWeight g (λ d. pos (rate d))) 1000000 (group-size g 1000000 (λ d. pos (rate d)) h) c b e
 
 closing-one : (rates : List ℕ) (c : Claim) → Accepted rates c → (b e g x : ℕ) → closingCount g x (monthRecords c b e) ≤ 1
 unfolding closingCount
@@ -95,8 +89,9 @@ share-sized w rates c ok =
     record {
       thirtieths = entry 5 54000 _ (λ k. exposure-size c b e (k + 1));
       closings = λ k l. rw (table-at 25 (λ k. closingCount (k / 5 + 1) (k % 5 + 1) (monthRecords c b e)) k 0 l) (closing-one rates c ok b e (k / 5 + 1) (k % 5 + 1));
-      recoveries = entry 5 54000000000 _ (λ k. recoveries-size rates c ok b e (k + 1));
-      deaths = entry 5 54000000000 _ (λ k. deaths-size rates c ok b e (k + 1));
+      recoveries =
+          entry 5 54000000000 _ (λ k. expected-size (recoveryRate rates (c .cell)) (λ d. recovery-bound rates (c .cell) d (accepted-rates rates c ok)) c b e (k + 1));
+      deaths = entry 5 54000000000 _ (λ k. expected-size (deathRate rates (c .cell)) (λ d. death-bound rates (c .cell) d (accepted-rates rates c ok)) c b e (k + 1));
     }
 
 none-sized : Sized 0 none

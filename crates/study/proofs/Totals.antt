@@ -19,7 +19,7 @@ use Rattle.claim_months.proofs.Closing.{cut-closings}
 use Rattle.rates.specs.Rates.{recoveryRate, deathRate}
 use Rattle.study.specs.declared.Sums.{Sums}
 use Rattle.study.specs.Sums.{signedEach, countEach, each, none, plus}
-use Rattle.study.specs.Study.{inGroup, exposure, closingCount, expectedRecoveries, expectedDeaths, recordSums, shareOf, sumOver, studyOf}
+use Rattle.study.specs.Study.{inGroup, groupWeight, exposure, closingCount, expected, recordSums, shareOf, sumOver, studyOf}
 use Rattle.study.proofs.Algebra.{Shaped, signed-is, count-is, sums-same}
 use Rattle.study.proofs.SumOver.{All, sums, sum-same, total-sums}
 use Rattle.study.proofs.Capacity.{Accepted, accepted-sound}
@@ -41,13 +41,13 @@ count-cut f g h e =
 -- a claim's shares over the two parts of a cut total its share of the undivided window
 cut-share : (rates : List ℕ) (c : Claim) → Accepted rates c → (b m e : ℕ) → b ≤ m → m < e
     → plus (shareOf (window b m) rates c) (shareOf (window (m + 1) e) rates c) ≡ shareOf (window b e) rates c
-unfolding each shareOf recordSums exposure closingCount expectedRecoveries expectedDeaths
+unfolding each shareOf recordSums exposure closingCount expected
 cut-share rates c a b m e bm me =
     let ok = accepted-sound rates c a in
-    sums-same _ _ (signed-cut _ _ _ (λ k. cut-weighted c ok (inGroup (k + 1)) b m e bm me))
+    sums-same _ _ (signed-cut _ _ _ (λ k. cut-weighted c ok (groupWeight (k + 1) (λ d. pos 1)) b m e bm me))
     (count-cut _ _ _ (λ k. cut-closings c ok (λ d y. inGroup (k / 5 + 1) d * pick (eqb y (k % 5 + 1)) 1 0) b m e bm me))
-    (signed-cut _ _ _ (λ k. cut-weighted c ok (λ d. inGroup (k + 1) d * recoveryRate rates (c .cell) d) b m e bm me))
-    (signed-cut _ _ _ (λ k. cut-weighted c ok (λ d. inGroup (k + 1) d * deathRate rates (c .cell) d) b m e bm me))
+    (signed-cut _ _ _ (λ k. cut-weighted c ok (groupWeight (k + 1) (λ d. pos (recoveryRate rates (c .cell) d))) b m e bm me))
+    (signed-cut _ _ _ (λ k. cut-weighted c ok (groupWeight (k + 1) (λ d. pos (deathRate rates (c .cell) d))) b m e bm me))
 
 module _ {R : Type 0} (win : R → Window) (rates : List ℕ) (cs : List Claim) (a : All (Accepted rates) cs) (b e : ℕ) (r : R) (rs : List R) (p : SoundParts win b e r rs) where
   pub studies-total : total plus (λ q. studyOf (win q) rates cs .sums) r rs ≡ studyOf (window b e) rates cs .sums

@@ -1,5 +1,6 @@
 -- What the study layer means: document 01's section Study, and demand 3. `Private` has what only private functions' contracts cite.
 pub mod Sums
 pub mod Study
+pub mod PreparedAdding
 pub mod Demand3
 pub mod Private

@@ -4,7 +4,7 @@ use mathlib.Core.Bool.{Bool, _&&_}
 use mathlib.Core.List.{List, [], _∷_}
 use lib.ListN.{length}
 use lib.Dec.{ltb, eqb}
-use lib.IntN.{ℤ}
+use lib.IntN.{ℤ, pos}
 use Rattle.basics.specs.Pick.{pick}
 use Rattle.basics.specs.Checks.{check, _then_, refuse-full}
 use Rattle.calendar.specs.declared.Date.{Date}
@@ -25,34 +25,36 @@ use Rattle.study.specs.Sums.{perGroup, perClosing, none, plus, within}
 unfoldable pub inGroup : ℕ → ℕ → ℕ
 inGroup g d = pick (eqb (groupOf d) g) 1 0
 
+-- a weight at the durations of group g, 0 at any other
+unfoldable pub groupWeight : ℕ → (ℕ → ℤ) → ℕ → ℤ
+groupWeight g w d = pick (eqb (groupOf d) g) (w d) (pos 0)
+
 -- Over the month records whose duration is in group g: the sum of thirtieths
 unfoldable pub exposure : ℕ → List MonthRecord → ℤ
-exposure g rs = weighted (inGroup g) rs
+exposure g rs = weighted (groupWeight g (λ d. pos 1)) rs
 
 -- the closing count under category x: a closing month counts one, under its category
 unfoldable pub closingCount : ℕ → ℕ → List MonthRecord → ℕ
 closingCount g x rs = closings (λ d y. inGroup g d * pick (eqb y x) 1 0) rs
 
 -- expected recoveries and expected deaths: the sum of thirtieths times rate
-unfoldable pub expectedRecoveries : List ℕ → ℕ → ℕ → List MonthRecord → ℤ
-expectedRecoveries rates cell g rs = weighted (λ d. inGroup g d * recoveryRate rates cell d) rs
+unfoldable pub expected : (ℕ → ℤ) → ℕ → List MonthRecord → ℤ
+expected rate g rs = weighted (groupWeight g rate) rs
 
-unfoldable pub expectedDeaths : List ℕ → ℕ → ℕ → List MonthRecord → ℤ
-expectedDeaths rates cell g rs = weighted (λ d. inGroup g d * deathRate rates cell d) rs
-
--- the sums over some month records of a claim in a cell
-unfoldable pub recordSums : List ℕ → ℕ → List MonthRecord → Sums
-recordSums rates cell rs =
+-- the sums over some month records, with the rates of recovery and of death at each duration
+unfoldable pub recordSums : (ℕ → ℤ) → (ℕ → ℤ) → List MonthRecord → Sums
+recordSums recovery death rs =
     record {
       thirtieths = perGroup (λ g. exposure g rs);
       closings = perClosing (λ g x. closingCount g x rs);
-      recoveries = perGroup (λ g. expectedRecoveries rates cell g rs);
-      deaths = perGroup (λ g. expectedDeaths rates cell g rs);
+      recoveries = perGroup (λ g. expected recovery g rs);
+      deaths = perGroup (λ g. expected death g rs);
     }
 
--- a claim's share of a study: the sums over its month records in the window
+-- a claim's share of a study: the sums over its month records in the window, with the rates of its cell
 unfoldable pub shareOf : Window → List ℕ → Claim → Sums
-shareOf w rates c = recordSums rates (c .cell) (monthRecords c (w .first .0) (w .last .0))
+shareOf w rates c =
+    recordSums (λ d. pos (recoveryRate rates (c .cell) d)) (λ d. pos (deathRate rates (c .cell) d)) (monthRecords c (w .first .0) (w .last .0))
 
 -- the sum over claims
 unfoldable pub sumOver : {A : Type 0} → (A → A → A) → A → (Claim → A) → List Claim → A

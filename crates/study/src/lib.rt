@@ -3,9 +3,9 @@ ghost use mathlib.Core.Path.{_≡_};
 ghost use mathlib.Core.Bool.{true};
 ghost use denote.Ref.{now};
 ghost use Rattle.claim_months.specs.Span.{SpanBounds};
-ghost use Rattle.rates.specs.Rates.{rateCheck};
-ghost use Rattle.study.specs.Study.{fresh, hasRoom, opened, added};
-ghost use Rattle.study.specs.Private.{withSpan, spanAdded};
+ghost use Rattle.study.specs.Study.{fresh, opened, added};
+ghost use Rattle.study.specs.PreparedAdding.{lentSums, lentStudy, lentShape, addedTo};
+ghost use Rattle.study.specs.Private.{spanNumber, spanSums};
 
 mod group_figures;
 mod room;
@@ -20,10 +20,11 @@ use claim_months::MaybeSpan;
 use claim_months::MaybeWindow;
 use claim_months::Span;
 use claim_months::Window;
+use rates::Kind;
 use room::has_room;
-use share::span_share;
+use share::add_closing;
+use share::add_months;
 use sums_algebra::no_sums;
-use sums_algebra::plus;
 
 // What a set of claims has, per group: a study's sums, or one claim's share of them. Groups 1 to 5 stand at places 0 to 4; the closing
 // count of group g under category x stands at place 5 × (g − 1) + x − 1.
@@ -66,43 +67,78 @@ fn fresh_study(window: Window) -> Study
     }
 }
 
-// The study with a claim's span added and the claim counted as taken.
-fn taken_span(study: Study, rates: &[u32], cell: u32, span: Span) -> Study
-    requires { ⌜ rateCheck (now rates) cell ≡ 0 ⌝ }
-    requires { ⌜ hasRoom study ≡ true ⌝ }
+// The checks 6 to 9, and the share of a sound claim's span added to the lent sums.
+fn add_span(
+    kind: Kind,
+    table: &[u32],
+    cell: u32,
+    span: Span,
+    taken: u32,
+    thirtieths: &mut [i64],
+    closings: &mut [u32],
+    recoveries: &mut [i64],
+    deaths: &mut [i64],
+) -> u8
     requires { ⌜ SpanBounds span ⌝ }
-    ensures { λ r. ⌜ r ≡ withSpan study (now (rates .entry)) cell span ⌝ }
+    requires { ⌜ lentShape (lentSums (now thirtieths) (now closings) (now recoveries) (now deaths)) ≡ true ⌝ }
+    ensures { λ r. ⌜ r ≡ spanNumber taken (lentSums (now (thirtieths .entry)) (now (closings .entry)) (now (recoveries .entry)) (now (deaths .entry))) kind (now (table .entry)) cell ⌝ }
+    ensures { λ r. ⌜ lentSums (now (thirtieths .exit)) (now (closings .exit)) (now (recoveries .exit)) (now (deaths .exit)) ≡ spanSums taken (lentSums (now (thirtieths .entry)) (now (closings .entry)) (now (recoveries .entry)) (now (deaths .entry))) kind (now (table .entry)) cell span ⌝ }
 {
-    let window = study.window;
-    let sums = study.sums;
-    Study {
-        window,
-        taken: study.taken + 1,
-        sums: plus(sums, span_share(rates, cell, span)),
+    let number = rates::prepared::check_of(kind, table, cell);
+    if number != 0 {
+        return number;
     }
+    if !has_room(taken, thirtieths, closings, recoveries, deaths) {
+        return refusal::FULL;
+    }
+    add_months(kind, table, cell, span, thirtieths, recoveries, deaths);
+    add_closing(span, closings);
+    0
 }
 
-// The checks 6 to 9, and the span of a sound claim added.
-fn add_span(study: Study, rates: &[u32], cell: u32, span: Span) -> Answer
-    requires { ⌜ SpanBounds span ⌝ }
-    ensures { λ r. ⌜ r ≡ spanAdded study (now (rates .entry)) cell span ⌝ }
+// Adds a claim to a study whose sums are lent: 0, or the number refused with the sums as they were; 255 if a list has not its length.
+pub fn add_to(
+    kind: Kind,
+    table: &[u32],
+    claim: Claim,
+    window: Window,
+    taken: u32,
+    thirtieths: &mut [i64],
+    closings: &mut [u32],
+    recoveries: &mut [i64],
+    deaths: &mut [i64],
+) -> u8
+    ensures { λ r. ⌜ r ≡ addedTo kind (now (table .entry)) claim (lentStudy window taken (lentSums (now (thirtieths .entry)) (now (closings .entry)) (now (recoveries .entry)) (now (deaths .entry)))) .refused ⌝ }
+    ensures { λ r. ⌜ lentSums (now (thirtieths .exit)) (now (closings .exit)) (now (recoveries .exit)) (now (deaths .exit)) ≡ addedTo kind (now (table .entry)) claim (lentStudy window taken (lentSums (now (thirtieths .entry)) (now (closings .entry)) (now (recoveries .entry)) (now (deaths .entry)))) .study .sums ⌝ }
 {
-    let number = rates::check(rates, cell);
-    if number != 0 {
-        return Answer {
-            refused: number,
-            study,
-        };
+    if thirtieths.len() != 5 {
+        return 255;
     }
-    if !has_room(study) {
-        return Answer {
-            refused: refusal::FULL,
-            study,
-        };
+    if closings.len() != 25 {
+        return 255;
     }
-    Answer {
-        refused: 0,
-        study: taken_span(study, rates, cell, span),
+    if recoveries.len() != 5 {
+        return 255;
+    }
+    if deaths.len() != 5 {
+        return 255;
+    }
+    match claim_months::exposure::span(claim, window) {
+        MaybeSpan::Spanned(span) => {
+            let cell = claim.cell as u32;
+            add_span(
+                kind,
+                table,
+                cell,
+                span,
+                taken,
+                thirtieths,
+                closings,
+                recoveries,
+                deaths,
+            )
+        }
+        MaybeSpan::Refused(number) => number,
     }
 }
 
@@ -130,11 +166,40 @@ impl Study {
         ensures { λ r. ⌜ r ≡ added self claim (now (rates .entry)) ⌝ }
     {
         let window = self.window;
-        match claim_months::exposure::span(claim, window) {
-            MaybeSpan::Spanned(span) => add_span(self, rates, claim.cell as u32, span),
-            MaybeSpan::Refused(number) => Answer {
-                refused: number,
+        let sums = self.sums;
+        let mut thirtieths = sums.thirtieths;
+        let mut closings = sums.closings;
+        let mut recoveries = sums.recoveries;
+        let mut deaths = sums.deaths;
+        let refused = add_to(
+            Kind::Plain,
+            rates,
+            claim,
+            window,
+            self.taken,
+            &mut thirtieths,
+            &mut closings,
+            &mut recoveries,
+            &mut deaths,
+        );
+        if refused != 0 {
+            return Answer {
+                refused,
                 study: self,
+            };
+        }
+        let sums = Sums {
+            thirtieths,
+            closings,
+            recoveries,
+            deaths,
+        };
+        Answer {
+            refused: 0,
+            study: Study {
+                window,
+                taken: self.taken + 1,
+                sums,
             },
         }
     }

@@ -1,125 +1,163 @@
-// The share that a span of months has in a study: one step per month, and its closing.
+// A span's share of a study, added to lent sums: a band of months for each group, and the closing.
 ghost use mathlib.Core.Path.{_≡_};
 ghost use mathlib.Core.Bool.{true};
-ghost use Prim.Native.Nat.{_+_, _≤_, _<_};
+ghost use Prim.Native.Nat.{_+_, _*_, _≤_, _<_};
 ghost use lib.IntN.{pos, natAbs, _+ℤ_, _*ℤ_};
-ghost use lib.ListN.{getD, set};
+ghost use lib.ListN.{length, getD, set};
 ghost use denote.Ref.{now};
-ghost use Rattle.basics.specs.Tables.{allWithin};
-ghost use Rattle.claim_months.specs.Span.{SpanBounds};
-ghost use Rattle.rates.specs.Rates.{rateCheck};
-ghost use Rattle.study.specs.Sums.{none};
-ghost use Rattle.study.specs.Private.{plusMonth, monthsShare, spanClosings, spanShare};
-use crate::Sums;
-use crate::sums_algebra::no_sums;
+ghost use Rattle.basics.specs.Tables.{allWithin, allAtMost};
+ghost use Rattle.claim_months.specs.Span.{bandSum, SpanBounds};
+ghost use Rattle.rates.specs.Prepared.{recoveryOf, deathOf};
+ghost use Rattle.study.specs.Sums.{signedEach, countEach};
+ghost use Rattle.study.specs.Private.{groupMonths, monthSums, spanClosings};
 use basics::Duration;
 use claim_months::Span;
+use rates::Kind;
+use rates::RateSums;
+use rates::prepared::rate_sums;
 
-// A rate times a month's thirtieths.
-fn weighted(rate: u32, thirtieths: i64) -> i64
-    requires { ⌜ rate ≤ 1000000 ⌝ }
-    requires { ⌜ natAbs thirtieths ≤ 30 ⌝ }
-    ensures { λ r. ⌜ r ≡ pos rate *ℤ thirtieths ⌝ }
+// A duration's rates times thirtieths.
+fn times_rates(
+    kind: Kind,
+    table: &[u32],
+    cell: u32,
+    duration: Duration,
+    thirtieths: u32,
+) -> RateSums
+    requires { ⌜ 2 ≤ duration .0 ⌝ }
+    requires { ⌜ thirtieths ≤ 30 ⌝ }
+    ensures { λ r. ⌜ r .recoveries ≡ pos thirtieths *ℤ recoveryOf kind (now (table .entry)) cell (duration .0) ⌝ }
+    ensures { λ r. ⌜ r .deaths ≡ pos thirtieths *ℤ deathOf kind (now (table .entry)) cell (duration .0) ⌝ }
+    ensures { λ r. ⌜ natAbs (r .recoveries) ≤ 128849018850 ⌝ }
+    ensures { λ r. ⌜ natAbs (r .deaths) ≤ 128849018850 ⌝ }
 {
-    rate as i64 * thirtieths
+    if thirtieths == 0 {
+        return RateSums {
+            recoveries: 0,
+            deaths: 0,
+        };
+    }
+    let rates = rate_sums(kind, table, cell, duration, 1);
+    RateSums {
+        recoveries: thirtieths as i64 * rates.recoveries,
+        deaths: thirtieths as i64 * rates.deaths,
+    }
 }
 
-// Five sums, with a rate times a month's thirtieths added to one of them.
-fn raised(sums: [i64; 5], place: usize, rate: u32, thirtieths: i64) -> [i64; 5]
-    requires { ⌜ place < 5 ⌝ }
-    requires { ⌜ allWithin 30000000000000000 sums ≡ true ⌝ }
-    requires { ⌜ rate ≤ 1000000 ⌝ }
-    requires { ⌜ natAbs thirtieths ≤ 30 ⌝ }
-    ensures { λ r. ⌜ r ≡ set sums place (getD sums place (pos 0) +ℤ pos rate *ℤ thirtieths) ⌝ }
+// The expected sums of months from a duration on: 30 thirtieths each, less those that the first and the last lack.
+fn band_rates(
+    kind: Kind,
+    table: &[u32],
+    cell: u32,
+    first: Duration,
+    months: u32,
+    before: u32,
+    short: u32,
+) -> RateSums
+    requires { ⌜ 2 ≤ first .0 ⌝ }
+    requires { ⌜ first .0 ≤ 6000 ⌝ }
+    requires { ⌜ 0 < months ⌝ }
+    requires { ⌜ months ≤ 1800 ⌝ }
+    requires { ⌜ before ≤ 30 ⌝ }
+    requires { ⌜ short ≤ 30 ⌝ }
+    ensures { λ r. ⌜ r .recoveries ≡ bandSum (recoveryOf kind (now (table .entry)) cell) (first .0) months before short ⌝ }
+    ensures { λ r. ⌜ r .deaths ≡ bandSum (deathOf kind (now (table .entry)) cell) (first .0) months before short ⌝ }
+    ensures { λ r. ⌜ natAbs (r .recoveries) ≤ 400000000000 * months ⌝ }
+    ensures { λ r. ⌜ natAbs (r .deaths) ≤ 400000000000 * months ⌝ }
+{
+    let all = rate_sums(kind, table, cell, first, months as u16);
+    let front = times_rates(kind, table, cell, first, before);
+    let back = times_rates(kind, table, cell, Duration(first.0 + (months - 1)), short);
+    RateSums {
+        recoveries: 30 * all.recoveries - front.recoveries - back.recoveries,
+        deaths: 30 * all.deaths - front.deaths - back.deaths,
+    }
+}
+
+// Their thirtieths.
+fn band_thirtieths(months: u32, before: u32, short: u32) -> i64
+    requires { ⌜ 0 < months ⌝ }
+    requires { ⌜ months ≤ 1800 ⌝ }
+    requires { ⌜ before ≤ 30 ⌝ }
+    requires { ⌜ short ≤ 30 ⌝ }
+    ensures { λ r. ⌜ r ≡ bandSum (λ d. pos 1) 0 months before short ⌝ }
+    ensures { λ r. ⌜ natAbs r ≤ 400000000000 * months ⌝ }
+{
+    30 * months as i64 - before as i64 - short as i64
+}
+
+// How many months of a span, from one of them on, are in its duration's group.
+fn group_months(span: Span, from: u32) -> u32
+    requires { ⌜ SpanBounds span ⌝ }
+    requires { ⌜ from < span .months ⌝ }
+    ensures { λ r. ⌜ r ≡ groupMonths span from ⌝ }
+{
+    let duration = Duration(span.first.0 + from);
+    let left = span.months - from;
+    let later = rates::group_last(duration).0 - duration.0;
+    if left <= later {
+        return left;
+    }
+    later + 1
+}
+
+// Adds an amount to one of some sums.
+fn raise(sums: &mut [i64], place: usize, amount: i64)
+    requires { ⌜ place < length (now sums) ⌝ }
+    requires { ⌜ allWithin 1000000000000000000 (now sums) ≡ true ⌝ }
+    requires { ⌜ natAbs amount ≤ 1000000000000000000 ⌝ }
+    ensures { λ _. ⌜ now (sums .exit) ≡ set (now (sums .entry)) place (getD (now (sums .entry)) place (pos 0) +ℤ amount) ⌝ }
 {
     let before = sums[place];
-    let amount = weighted(rate, thirtieths);
-    let mut after = sums;
-    after[place] = before + amount;
-    after
+    sums[place] = before + amount;
 }
 
-// The duration of a span's month, by its place from 0.
-fn duration_of(span: Span, place: u32) -> Duration
-    requires { ⌜ span .first .0 ≤ 3626 ⌝ }
-    requires { ⌜ place < 1800 ⌝ }
-    ensures { λ r. ⌜ r .0 ≡ span .first .0 + place ⌝ }
+// Adds a span's months to the sums of their groups: one step for each group that the span touches.
+pub(crate) fn add_months(
+    kind: Kind,
+    table: &[u32],
+    cell: u32,
+    span: Span,
+    thirtieths: &mut [i64],
+    recoveries: &mut [i64],
+    deaths: &mut [i64],
+)
+    requires { ⌜ SpanBounds span ⌝ }
+    requires { ⌜ (length (now thirtieths) ≡ 5) × (allWithin 27000000000000000 (now thirtieths) ≡ true) ⌝ }
+    requires { ⌜ (length (now recoveries) ≡ 5) × (allWithin 27000000000000000 (now recoveries) ≡ true) ⌝ }
+    requires { ⌜ (length (now deaths) ≡ 5) × (allWithin 27000000000000000 (now deaths) ≡ true) ⌝ }
+    ensures { λ _. ⌜ now (thirtieths .exit) ≡ signedEach _+ℤ_ (now (thirtieths .entry)) (monthSums (λ d. pos 1) span (span .months)) ⌝ }
+    ensures { λ _. ⌜ now (recoveries .exit) ≡ signedEach _+ℤ_ (now (recoveries .entry)) (monthSums (recoveryOf kind (now (table .entry)) cell) span (span .months)) ⌝ }
+    ensures { λ _. ⌜ now (deaths .exit) ≡ signedEach _+ℤ_ (now (deaths .entry)) (monthSums (deathOf kind (now (table .entry)) cell) span (span .months)) ⌝ }
 {
-    Duration(span.first.0 + place)
-}
-
-// The sums with one month added: its thirtieths, and those times each rate, to the sums of its duration's group.
-fn add_month(sums: Sums, rates: &[u32], cell: u32, duration: Duration, thirtieths: i64) -> Sums
-    requires { ⌜ rateCheck (now rates) cell ≡ 0 ⌝ }
-    requires { ⌜ natAbs thirtieths ≤ 30 ⌝ }
-    requires { ⌜ allWithin 30000000000000000 (sums .thirtieths) ≡ true ⌝ }
-    requires { ⌜ allWithin 30000000000000000 (sums .recoveries) ≡ true ⌝ }
-    requires { ⌜ allWithin 30000000000000000 (sums .deaths) ≡ true ⌝ }
-    ensures { λ r. ⌜ r ≡ plusMonth sums (now (rates .entry)) cell (duration .0) thirtieths ⌝ }
-{
-    let place = (rates::group(duration) - 1) as usize;
-    let exposed = sums.thirtieths;
-    let closings = sums.closings;
-    let recoveries = sums.recoveries;
-    let deaths = sums.deaths;
-    let recovery = rates::recovery(rates, cell, duration);
-    let death = rates::death(rates, cell, duration);
-    Sums {
-        thirtieths: raised(exposed, place, 1, thirtieths),
-        closings,
-        recoveries: raised(recoveries, place, recovery, thirtieths),
-        deaths: raised(deaths, place, death, thirtieths),
+    let mut from = 0;
+    while from < span.months {
+        let months = group_months(span, from);
+        let first = Duration(span.first.0 + from);
+        let place = (rates::group(first) - 1) as usize;
+        let before = span.lower(from).0;
+        let short = 30 - span.upper(from + (months - 1)).0;
+        let expected = band_rates(kind, table, cell, first, months, before, short);
+        raise(thirtieths, place, band_thirtieths(months, before, short));
+        raise(recoveries, place, expected.recoveries);
+        raise(deaths, place, expected.deaths);
+        from += months;
     }
 }
 
-// The sums over every month of a span, without its closing. One step per month.
-fn months_share(rates: &[u32], cell: u32, span: Span) -> Sums
-    requires { ⌜ rateCheck (now rates) cell ≡ 0 ⌝ }
+// Counts a span's closing month, if it has one, under its group and category.
+pub(crate) fn add_closing(span: Span, counts: &mut [u32])
     requires { ⌜ SpanBounds span ⌝ }
-    ensures { λ r. ⌜ r ≡ monthsShare (none .closings) (now (rates .entry)) cell span (span .months) ⌝ }
+    requires { ⌜ length (now counts) ≡ 25 ⌝ }
+    requires { ⌜ allAtMost 500000 (now counts) ≡ true ⌝ }
+    ensures { λ _. ⌜ now (counts .exit) ≡ countEach _+_ (now (counts .entry)) (spanClosings span) ⌝ }
 {
-    let mut share = no_sums();
-    let mut j: u32 = 0;
-    while j < span.months {
-        let duration = duration_of(span, j);
-        let thirtieths = span.thirtieths(j);
-        share = add_month(share, rates, cell, duration, thirtieths);
-        j += 1;
-    }
-    share
-}
-
-// The closing counts of a span: its closing month, if it has one, counts under its group and category.
-fn closing_counts(span: Span) -> [u32; 25]
-    requires { ⌜ SpanBounds span ⌝ }
-    ensures { λ r. ⌜ r ≡ spanClosings span ⌝ }
-{
-    let mut counts = [0; 25];
     let category = span.category;
     if category == 0 {
-        return counts;
+        return;
     }
     let duration = Duration(span.first.0 + span.months - 1);
     let place = 5 * (rates::group(duration) - 1) + (category - 1);
     let at = place as usize;
-    counts[at] = 1;
-    counts
-}
-
-// The share of a claim whose month records have this span.
-pub(crate) fn span_share(rates: &[u32], cell: u32, span: Span) -> Sums
-    requires { ⌜ rateCheck (now rates) cell ≡ 0 ⌝ }
-    requires { ⌜ SpanBounds span ⌝ }
-    ensures { λ r. ⌜ r ≡ spanShare (now (rates .entry)) cell span ⌝ }
-{
-    let months = months_share(rates, cell, span);
-    let thirtieths = months.thirtieths;
-    let recoveries = months.recoveries;
-    let deaths = months.deaths;
-    Sums {
-        thirtieths,
-        closings: closing_counts(span),
-        recoveries,
-        deaths,
-    }
+    counts[at] += 1;
 }

@@ -4,7 +4,7 @@ use mathlib.Core.Path.{_≡_, refl}
 use mathlib.Core.List.{List}
 use lib.Ieee.{ofInt, add, mul, div, lt, le, eq}
 use Rattle.basics.specs.Checks.{_then_}
-use Rattle.rates.specs.Rates.{cells, place, recoveryRate, deathRate, tableSound, ratesSoundTo, ratesSound, rateCheck, groupOf}
+use Rattle.rates.specs.Rates.{cells, place, recoveryRate, deathRate, lengthSound, ratesSoundTo, ratesSound, rateCheck, groupOf}
 use Rattle.valuation.specs.Rate.{valuationRate, durationSound}
 use Rattle.valuation.specs.Reserve.{
   float,
@@ -36,5 +36,5 @@ half-throughout rates cell first t g = rw (g 1, g 2) two-months
 
 -- the table's rates and each T give this g, so the call's answer is the figure
 pub call-answers : reserveIn halfTable 0 4 even 2 half ≡ Factor figure
-unfolding reserveIn reserveCheck _then_ rateCheck tableSound cells ratesSound ratesSoundTo recoveryRate deathRate place durationSound discountSound reserveOf running month start monthRate monthDuration groupT groupOf valuationRate float ofInt add mul div lt le eq
+unfolding reserveIn reserveCheck _then_ rateCheck lengthSound cells ratesSound ratesSoundTo recoveryRate deathRate place durationSound discountSound reserveOf running month start monthRate monthDuration groupT groupOf valuationRate float ofInt add mul div lt le eq
 call-answers = refl

@@ -4,7 +4,7 @@ use Prim.Native.Nat.{_≤_, _<_, _-_}
 use mathlib.Core.Path.{_≡_, refl}
 use native.Mathlib.Omega.{arith}
 use borrow.Author.Tests.{le-leb, lt-leb}
-use lib.ListN.{getD, drop}
+use lib.ListN.{length, getD, drop}
 use lib.Dec.{leb}
 use Rattle.basics.specs.Tables.{allAtMost}
 use Rattle.basics.proofs.Tables.{Walk, walk}
@@ -12,29 +12,30 @@ use Rattle.study.proofs.room.all_at_most.Statement.{statement}
 use Rattle.study.proofs.room.all_at_most.Tie as tie
 
 abbrev Inv-loop : tie.InvT-loop
-Inv-loop counts k₀ k = (k ≤ 25) × (allAtMost 500000 (drop k counts) ≡ allAtMost 500000 counts)
+Inv-loop counts k₀ k-end k = (k ≤ k-end) × (k-end ≡ length counts) × (allAtMost 500000 (drop k counts) ≡ allAtMost 500000 counts)
 
 abbrev μ-loop : tie.MeasureT-loop
-μ-loop counts k₀ k = 25 - k
+μ-loop counts k₀ k-end k = k-end - k
 
-walked : (c : tie.At-loop Inv-loop μ-loop) → Walk 25 0 (λ x. leb x 500000) (allAtMost 500000) (c .before .args .t1) (c .loop .k)
+walked : (c : tie.At-loop Inv-loop μ-loop)
+    → Walk (length (c .before .args .counts .now)) 0 (λ x. leb x 500000) (allAtMost 500000) (c .before .args .counts .now) (c .loop .k)
 unfolding allAtMost
-walked c = walk 25 0 _ (allAtMost 500000) refl (λ x xs. refl) (c .before .args .t1) (c .before .good .0 .1 .0 .1) (c .loop .k) (c .loop .inv .1)
+walked c = walk _ 0 _ (allAtMost 500000) refl (λ x xs. refl) (c .before .args .counts .now) refl (c .loop .k) (c .loop .inv .2)
 
 loop-holds : tie.Need-loop-holds Inv-loop μ-loop
-loop-holds c = (omega arith, refl)
+loop-holds c = (omega arith, refl, refl)
 
 returns : tie.Need-returns Inv-loop μ-loop
 returns c =
-    let x = getD (c .before .before .before .args .t1) (c .before .before .loop .k) 0 in
+    let x = getD (c .before .before .before .before .args .counts .now) (c .before .before .before .loop .k) 0 in
     let h : 500000 < x = omega arith in
-    walked (c .before .before) .fails (omega arith) (lt-leb x 500000 h)
+    walked (c .before .before .before) .fails (omega arith) (lt-leb x 500000 h)
 
 loop-again : tie.Need-loop-again Inv-loop μ-loop
 loop-again c =
-    let x = getD (c .before .before .before .args .t1) (c .before .before .loop .k) 0 in
+    let x = getD (c .before .before .before .before .args .counts .now) (c .before .before .before .loop .k) 0 in
     let h : x ≤ 500000 = omega arith in
-    (omega arith, walked (c .before .before) .goes-on (omega arith) (le-leb x 500000 h))
+    (omega arith, refl, walked (c .before .before .before) .goes-on (omega arith) (le-leb x 500000 h))
 
 returns-2 : tie.Need-returns-2 Inv-loop μ-loop
 returns-2 c = walked (c .before) .ends (omega arith)

@@ -1,55 +1,60 @@
--- `study::room::is_within` meets its contract. The number is read back from its bits; of a negative one, −1 − x is the size less one.
+-- `study::room::is_within` meets its contract: a number is not below −bound and not above bound.
 -- Assumes nothing.
-use mathlib.Core.Path.{_≡_, refl, sym, ap}
+use Prim.Native.Nat.{ℕ, zero, suc, zero-le, _≤_}
+use mathlib.Core.Path.{_≡_, refl, sym, _∙_}
 use mathlib.Core.Bool.{true, false, true≢false}
-use Prim.Native.Nat.{ℕ, suc}
-use borrow.Author.Tests.{le-ltb}
-use lib.Dec.{T, leb, ltb}
-use lib.IntN.{ℤ, pos, negsuc, natAbs, _-ℤ_}
-use lib.Signed.{ltZ, nonNeg, mag}
+use native.Mathlib.Omega.{arith}
+use borrow.Author.Tests.{le-leb, lt-leb}
+use lib.Dec.{leb}
+use lib.IntN.{ℤ, pos, negsuc, natAbs, negℤ, _-ℤ_, +ℤ-idl}
+use lib.Signed.{ltZ, leZ}
 use mir.Syntax.{w64}
-use mir.Val.{SFits, toZ, ofZ}
-use mir.Facts.{toZ-ofZ, fits-natAbs}
+use mir.Val.{toZ, ofZ}
+use mir.Facts.{toZ-ofZ}
 use Rattle.basics.proofs.Tests.{tests}
+use Rattle.basics.proofs.Integers.{sub-is, size-sub}
+use Rattle.basics.proofs.Signed.{Small, read-back, result-fits, result-is}
 use Rattle.study.proofs.room.is_within.Statement.{statement}
 use Rattle.study.proofs.room.is_within.Tie as tie
 
-minus : (z : ℤ) → ltZ z (pos 0) ≡ true → negsuc 0 -ℤ z ≡ pos (mag z)
-minus (pos n) h = absurd (omega tests)
-minus (negsuc n) h = rw (le-ltb (suc n) 1 (omega tests)) (ap pos (omega tests))
+below : (x : ℤ) (b : ℕ) → ltZ x (negℤ (pos b)) ≡ true → false ≡ leb (natAbs x) b
+below (pos n) zero h = absurd (omega tests)
+below (pos n) (suc b) h = absurd (true≢false (sym h))
+below (negsuc n) zero h = sym (lt-leb (suc n) zero (omega tests))
+below (negsuc n) (suc b) h = sym (lt-leb (suc n) (suc b) (omega tests))
 
-above : (z : ℤ) → ltZ z (pos 0) ≡ false → T (nonNeg z)
-above (pos n) h = tt
-above (negsuc n) h = absurd (true≢false h)
+not-below : (x : ℤ) (b : ℕ) → ltZ x (negℤ (pos b)) ≡ false → leZ x (pos b) ≡ leb (natAbs x) b
+not-below (pos n) b h = refl
+not-below (negsuc n) zero h = absurd (true≢false h)
+not-below (negsuc n) (suc b) h = sym (le-leb (suc n) (suc b) (omega tests))
 
-size : (z : ℤ) (n : ℕ) → ltZ z (pos 0) ≡ true → ltb (mag z) n ≡ leb (natAbs z) n
-size (pos m) n h = absurd (omega tests)
-size (negsuc m) n h = refl
+-- −bound and bound as the code has them
+opposite-size : (b : ℕ) → natAbs (pos 0 -ℤ pos b) ≤ b
+opposite-size b = rw (← sub-is 0 b) (size-sub 0 b b zero-le (omega tests))
 
--- −1 − x for a negative x, as the machine has it, and that it fits
-less-one : (c : tie.Then1) → negsuc 0 -ℤ toZ w64 (ofZ w64 (c .before .args .x)) ≡ pos (mag (c .before .args .x))
-less-one c = let e = toZ-ofZ (c .before .fits .x) in rw e (minus (c .before .args .x) (rw e at (c .if1 .taken)))
+module _ (c : tie.Start) where
+  abbrev bound : ℕ
+  bound = c .args .bound
 
-less-one-fits : (c : tie.Then1) → SFits w64 (pos (mag (c .before .args .x)))
-less-one-fits c = record { sfits = c .before .fits .x .sfits }
+  opposite-small : Small (pos 0 -ℤ pos bound)
+  opposite-small = omega (arith, opposite-size bound)
 
-sub-result : tie.Need-sub-result
-sub-result c = rw (less-one c) (less-one-fits c)
+  limit : toZ w64 (ofZ w64 (pos 0 -ℤ toZ w64 bound)) ≡ negℤ (pos bound)
+  limit = result-is _-ℤ_ (pos 0) (pos bound) (omega arith) (omega arith) opposite-small ∙ +ℤ-idl (negℤ (pos bound))
 
-cast-result : tie.Need-cast-result
-cast-result c = rw (less-one c, toZ-ofZ (less-one-fits c)) (tt, fits-natAbs tt (less-one-fits c))
+cast-limit : tie.Need-cast-limit
+cast-limit c = record { sfits = omega arith }
+
+sub-if1 : tie.Need-sub-if1
+sub-if1 c = result-fits _-ℤ_ (pos 0) (pos (c .args .bound)) (omega arith) (omega arith) (opposite-small c)
 
 returns : tie.Need-returns
-returns c =
-    rw (less-one c, toZ-ofZ (less-one-fits c)) (size (c .before .args .x) (c .before .args .bound) (rw (toZ-ofZ (c .before .fits .x)) at (c .if1 .taken)))
-
-cast-result-2 : tie.Need-cast-result-2
-cast-result-2 c =
-    let e = toZ-ofZ (c .before .fits .x) in
-    rw e (above (c .before .args .x) (rw e at (c .if1 .left)), fits-natAbs tt (c .before .fits .x))
+returns c = below (c .before .args .x) (c .before .args .bound) (rw (toZ-ofZ (c .before .fits .x), limit (c .before)) at (c .if1 .taken))
 
 returns-2 : tie.Need-returns-2
-returns-2 c = let e = toZ-ofZ (c .before .fits .x) in rw e refl
+returns-2 c =
+    rw (toZ-ofZ (c .before .fits .x), read-back (pos (c .before .args .bound)) (omega arith))
+    (not-below (c .before .args .x) (c .before .args .bound) (rw (toZ-ofZ (c .before .fits .x), limit (c .before)) at (c .if1 .left)))
 
 pub is-within-spec : {M : Type 1} → statement M
-is-within-spec = tie.close (tie.spec sub-result cast-result returns cast-result-2 returns-2)
+is-within-spec = tie.close (tie.spec cast-limit sub-if1 returns returns-2)

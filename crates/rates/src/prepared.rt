@@ -1,0 +1,186 @@
+// Preparing a table in place, and the rates of a table of either kind.
+ghost use mathlib.Core.Path.{_≡_};
+ghost use Prim.Native.Nat.{ℕ, _+_, _*_, _≤_, _<_};
+ghost use lib.IntN.{pos, natAbs};
+ghost use lib.ListN.{length, getD};
+ghost use denote.Ref.{now};
+ghost use Rattle.rates.specs.Rates.{place};
+ghost use Rattle.rates.specs.Prepared.{runningFrom, preparedCell, marked, prepareCheck, prepareAfter, preparedCheck, sumBefore, preparedRate, checkOf, recoveryOf, deathOf, ratesOver};
+use crate::Kind;
+use crate::RateSums;
+use crate::check;
+use crate::is_table;
+use crate::place_of;
+use crate::rate;
+use crate::sound;
+use basics::Duration;
+use basics::refusal;
+
+// Replaces numbers by their running sums.
+fn run_sums(numbers: &mut [u32])
+    requires { ⌜ length (now numbers) ≤ 479 ⌝ }
+    requires { ⌜ ((i : ℕ) → getD (now numbers) i 0 ≤ 1000000) ⌝ }
+    ensures { λ _. ⌜ now (numbers .exit) ≡ runningFrom 0 (now (numbers .entry)) ⌝ }
+{
+    let mut sum: u32 = 0;
+    for i in 0..numbers.len() {
+        sum += numbers[i];
+        numbers[i] = sum;
+    }
+}
+
+// Prepares the 958 numbers of a cell.
+fn prepare_cell(cell: &mut [u32])
+    requires { ⌜ length (now cell) ≡ 958 ⌝ }
+    ensures { λ _. ⌜ now (cell .exit) ≡ preparedCell (now (cell .entry)) ⌝ }
+{
+    if !sound(cell, 0) {
+        cell[0] = 4294967295;
+        return;
+    }
+    run_sums(&mut cell[0..479]);
+    run_sums(&mut cell[479..958]);
+}
+
+// Whether a table has the length of a prepared one and a mark.
+fn is_marked(table: &[u32], mark: u32) -> bool
+    ensures { λ r. ⌜ r ≡ marked (now (table .entry)) mark ⌝ }
+{
+    if table.len() < 1 {
+        return false;
+    }
+    let last = table.len() - 1;
+    if !is_table(last) {
+        return false;
+    }
+    table[last] == mark
+}
+
+// Prepares a table in place: 0, or 6 with the table as it was.
+pub fn prepare(table: &mut [u32]) -> u8
+    ensures { λ r. ⌜ r ≡ prepareCheck (now (table .entry)) ⌝ }
+    ensures { λ _. ⌜ now (table .exit) ≡ prepareAfter (now (table .entry)) ⌝ }
+{
+    if !is_marked(table, 0) {
+        return refusal::RATE_TABLE;
+    }
+    let last = table.len() - 1;
+    for cell in 0..last / 958 {
+        let from = cell * 958;
+        let to = from + 958;
+        prepare_cell(&mut table[from..to]);
+    }
+    table[last] = 1;
+    0
+}
+
+// A number of a table; 0 past it.
+fn number_at(table: &[u32], at: usize) -> u32
+    ensures { λ r. ⌜ r ≡ getD (now (table .entry)) at 0 ⌝ }
+{
+    if at < table.len() {
+        return table[at];
+    }
+    0
+}
+
+// The checks 6 to 8 with a prepared table.
+fn check_prepared(table: &[u32], cell: u32) -> u8
+    ensures { λ r. ⌜ r ≡ preparedCheck (now (table .entry)) cell ⌝ }
+{
+    if !is_marked(table, 1) {
+        return refusal::RATE_TABLE;
+    }
+    if cell as usize >= (table.len() - 1) / 958 {
+        return refusal::CELL;
+    }
+    if number_at(table, cell as usize * 958) > 1000000 {
+        return refusal::RATE;
+    }
+    0
+}
+
+// The number of the first of the checks 6 to 8 that fails for a table of either kind and a cell, or 0.
+pub fn check_of(kind: Kind, table: &[u32], cell: u32) -> u8
+    ensures { λ r. ⌜ r ≡ checkOf kind (now (table .entry)) cell ⌝ }
+{
+    match kind {
+        Kind::Plain => check(table, cell),
+        Kind::Prepared => check_prepared(table, cell),
+    }
+}
+
+// The running sum before a place of the sums that start at a number; 0 before the first.
+fn sum_before(table: &[u32], at: usize, place: usize) -> u32
+    requires { ⌜ at ≤ 4294967295 * 958 + 479 ⌝ }
+    requires { ⌜ place < 479 ⌝ }
+    ensures { λ r. ⌜ pos r ≡ sumBefore (now (table .entry)) at place ⌝ }
+{
+    if place == 0 {
+        return 0;
+    }
+    number_at(table, at + place - 1)
+}
+
+// The sum of the rates at some durations, of running sums that start at a number: past 480 the last difference again with each.
+fn prepared_sum(table: &[u32], at: usize, from: Duration, months: u16) -> i64
+    requires { ⌜ at ≤ 4294967295 * 958 + 479 ⌝ }
+    ensures { λ r. ⌜ r ≡ ratesOver (preparedRate (now (table .entry)) at) (from .0) months ⌝ }
+    ensures { λ r. ⌜ natAbs r ≤ 4294967295 * months ⌝ }
+{
+    if months == 0 {
+        return 0;
+    }
+    let first = place_of(from);
+    let mut last = first + months as usize - 1;
+    if last > 478 {
+        last = 478;
+    }
+    let within = number_at(table, at + last) as i64 - sum_before(table, at, first) as i64;
+    let later = months as usize - (last - first + 1);
+    if later == 0 {
+        return within;
+    }
+    within + later as i64 * (number_at(table, at + 478) as i64 - number_at(table, at + 477) as i64)
+}
+
+// The sum of the rates at some durations, of rates that start `from` places into a cell.
+fn plain_sum(table: &[u32], cell: u32, from: u16, duration: Duration, months: u16) -> i64
+    ensures { λ r. ⌜ r ≡ ratesOver (λ d. pos (getD (now (table .entry)) (cell * 958 + from + place d) 0)) (duration .0) months ⌝ }
+    ensures { λ r. ⌜ natAbs r ≤ 4294967295 * months ⌝ }
+{
+    let mut sum: u64 = 0;
+    let mut next = duration.0;
+    if next < 2 {
+        next = 2;
+    }
+    let mut done: u16 = 0;
+    while done < months {
+        sum += rate(table, cell, from, Duration(next)) as u64;
+        if next < 480 {
+            next += 1;
+        }
+        done += 1;
+    }
+    sum as i64
+}
+
+// The sums of a cell's rates at some durations from one on.
+pub fn rate_sums(kind: Kind, table: &[u32], cell: u32, from: Duration, months: u16) -> RateSums
+    ensures { λ r. ⌜ r .recoveries ≡ ratesOver (recoveryOf kind (now (table .entry)) cell) (from .0) months ⌝ }
+    ensures { λ r. ⌜ r .deaths ≡ ratesOver (deathOf kind (now (table .entry)) cell) (from .0) months ⌝ }
+    ensures { λ r. ⌜ natAbs (r .recoveries) ≤ 4294967295 * months ⌝ }
+    ensures { λ r. ⌜ natAbs (r .deaths) ≤ 4294967295 * months ⌝ }
+{
+    let at = cell as usize * 958;
+    match kind {
+        Kind::Plain => RateSums {
+            recoveries: plain_sum(table, cell, 0, from, months),
+            deaths: plain_sum(table, cell, 479, from, months),
+        },
+        Kind::Prepared => RateSums {
+            recoveries: prepared_sum(table, at, from, months),
+            deaths: prepared_sum(table, at + 479, from, months),
+        },
+    }
+}

@@ -1,0 +1,160 @@
+// Prints what preparing makes of a table of 64 cells, and the checks and sums of a table of either kind.
+use basics::Duration;
+use rates::Kind;
+use rates::prepared::check_of;
+use rates::prepared::prepare;
+use rates::prepared::rate_sums;
+use test_support::numbers::bits;
+use test_support::print::put;
+use test_support::print::put_next;
+
+// Preparing the first `count` numbers of a list: the count and the answer.
+fn prepare_start(list: &mut [u32], count: usize) {
+    if count <= list.len() {
+        put_next(count as u64);
+        put_next(prepare(&mut list[0..count]) as u64);
+    }
+}
+
+// The checks of the first `count` numbers of a list with the cells 0, 1, 63, 64 and the last number.
+fn check_start(kind: Kind, list: &[u32], count: usize) {
+    if count <= list.len() {
+        let table = &list[0..count];
+        put(b"checks");
+        put_next(check_of(kind, table, 0) as u64);
+        put_next(check_of(kind, table, 1) as u64);
+        put_next(check_of(kind, table, 63) as u64);
+        put_next(check_of(kind, table, 64) as u64);
+        put_next(check_of(kind, table, 4294967295) as u64);
+        put(b"\n");
+    }
+}
+
+// The sums of the recovery and the death rates of a cell over some durations.
+fn put_sum(kind: Kind, table: &[u32], cell: u32, from: u32, months: u16) {
+    let sums = rate_sums(kind, table, cell, Duration(from), months);
+    put_next(bits(sums.recoveries));
+    put_next(bits(sums.deaths));
+}
+
+// Sums from before duration 2, up to 480 and past it.
+fn put_sums(kind: Kind, table: &[u32], cell: u32) {
+    put(b"cell");
+    put_next(cell as u64);
+    put(b" sums");
+    put_sum(kind, table, cell, 2, 0);
+    put_sum(kind, table, cell, 0, 1);
+    put_sum(kind, table, cell, 2, 2);
+    put_sum(kind, table, cell, 3, 477);
+    put_sum(kind, table, cell, 2, 479);
+    put_sum(kind, table, cell, 2, 480);
+    put_sum(kind, table, cell, 480, 3);
+    put_sum(kind, table, cell, 481, 1);
+    put_sum(kind, table, cell, 4294967295, 65535);
+    put(b"\n");
+}
+
+// The sums of the first `count` numbers of a list in the first cell, in the last, and past it.
+fn sum_start(kind: Kind, list: &[u32], count: usize) {
+    if count <= list.len() {
+        let table = &list[0..count];
+        put_sums(kind, table, 0);
+        put_sums(kind, table, 63);
+        put_sums(kind, table, 64);
+    }
+}
+
+fn put_wide(number: u32) {
+    put_next(number as u64);
+}
+
+fn put_number(list: &[u32], at: usize) {
+    if at < list.len() {
+        put_wide(list[at]);
+    }
+}
+
+// The same of an array.
+fn put_prepare(table: &mut [u32; 62271], count: usize) {
+    prepare_start(table, count);
+}
+
+fn put_checks(kind: Kind, table: &[u32; 62271], count: usize) {
+    check_start(kind, table, count);
+}
+
+fn put_table(kind: Kind, table: &[u32; 62271], count: usize) {
+    check_start(kind, table, count);
+    sum_start(kind, table, count);
+}
+
+// Numbers of the first, the second and the 64th cell, first and last of each kind of rates, and the mark.
+fn put_numbers(table: &[u32; 62271]) {
+    put(b"numbers");
+    put_number(table, 0);
+    put_number(table, 1);
+    put_number(table, 477);
+    put_number(table, 478);
+    put_number(table, 479);
+    put_number(table, 957);
+    put_number(table, 958);
+    put_number(table, 1436);
+    put_number(table, 1915);
+    put_number(table, 60354);
+    put_number(table, 60832);
+    put_number(table, 60833);
+    put_number(table, 61311);
+    put_number(table, 61312);
+    put(b"\n");
+}
+
+// Lengths that aren't prepared, 64 cells that are, and the same once more.
+fn put_lengths(list: [u32; 62271]) -> [u32; 62271] {
+    let mut table = list;
+    put(b"prepare");
+    put_prepare(&mut table, 0);
+    put_prepare(&mut table, 1);
+    put_prepare(&mut table, 958);
+    put_prepare(&mut table, 960);
+    put_prepare(&mut table, 62271);
+    put_prepare(&mut table, 61313);
+    put_prepare(&mut table, 61313);
+    put(b"\n");
+    table
+}
+
+// The first cell of 64 and the last are sound, and the second is over 1,000,000 at duration 480.
+pub(crate) fn put_preparing() {
+    let mut table = [0u32; 62271];
+    table[0] = 600000;
+    table[1] = 300000;
+    table[478] = 250000;
+    table[479] = 400000;
+    table[957] = 7;
+    table[1436] = 400001;
+    table[1915] = 600000;
+    table[60354] = 1000000;
+    table[60832] = 3;
+    table[61311] = 5;
+    put_table(Kind::Plain, &table, 61312);
+    put_checks(Kind::Prepared, &table, 61313);
+    let after = put_lengths(table);
+    put_numbers(&after);
+    put_checks(Kind::Plain, &after, 61313);
+    put_checks(Kind::Prepared, &after, 61312);
+    put_table(Kind::Prepared, &after, 61313);
+}
+
+// Numbers that are no running sums, under the mark of a prepared table: differences below 0.
+pub(crate) fn put_falling() {
+    let mut table = [0u32; 959];
+    table[0] = 5;
+    table[1] = 3;
+    table[477] = 9;
+    table[478] = 4;
+    table[958] = 1;
+    put(b"falling");
+    put_sum(Kind::Prepared, &table, 0, 3, 1);
+    put_sum(Kind::Prepared, &table, 0, 479, 3);
+    put(b"\n");
+}

@@ -1,0 +1,116 @@
+-- Adding with plain rates is document 01's, and adding with a prepared table is adding with the rates that were prepared.
+-- Assumes nothing.
+use Prim.Native.Nat.{ℕ, _+_, _<_}
+use mathlib.Core.Path.{_≡_, refl, sym, ap, ap₂, _∙_, fun-ext, subst⁻¹}
+use mathlib.Core.List.{List}
+use lib.Dec.{eqb}
+use lib.IntN.{ℤ, _+ℤ_}
+use borrow.Author.Tests.{eqb-true, ne-eqb}
+use Rattle.basics.specs.Pick.{pick}
+use Rattle.basics.specs.Checks.{_then_}
+use Rattle.basics.proofs.Tests.{tests, by}
+use Rattle.basics.proofs.Checks.{then-passed, check-passed}
+use Rattle.claim_months.specs.declared.Claim.{Claim}
+use Rattle.claim_months.specs.Claim.{claimCheck}
+use Rattle.claim_months.specs.Exposure.{monthRecords}
+use Rattle.claim_months.specs.Windows.{windowCheck}
+use Rattle.rates.specs.declared.Kind.{Kind}
+use Rattle.rates.specs.declared.Kind.the-variants.{Plain, Prepared}
+use Rattle.rates.specs.Prepared.{checkOf, recoveryOf, deathOf, preparedOf}
+use Rattle.rates.proofs.PreparedTables.{same-table}
+use Rattle.study.specs.declared.Study.{Study}
+use Rattle.study.specs.declared.Sums.{Sums}
+use Rattle.study.specs.declared.Answer.{Answer}
+use Rattle.study.specs.Sums.{plus}
+use Rattle.study.specs.Study.{recordSums, shareOf, hasRoom, roomCheck, addCheck, withClaim, added}
+use Rattle.study.specs.PreparedAdding.{shareWith, addCheckWith, addedWith, SameAdding, lentStudy, addedTo}
+use Rattle.study.proofs.Algebra.{Shaped, each-shaped}
+use Rattle.study.proofs.Capacity.{has-room}
+use Rattle.study.proofs.WithSpan.{answer}
+use Rattle.study.proofs.SpanAdds.{is-shaped}
+
+plain-added : (s : Study) (c : Claim) (rates : List ℕ) → addedWith Plain s c rates ≡ added s c rates
+unfolding addedWith addCheckWith shareWith added addCheck withClaim shareOf checkOf recoveryOf deathOf
+plain-added s c rates = refl
+
+module _ (s : Study) (c : Claim) (rates : List ℕ) where
+  prepared-number : addCheckWith Prepared s c (preparedOf rates) ≡ addCheckWith Plain s c rates
+  unfolding addCheckWith
+  prepared-number =
+      ap (λ (n : ℕ). windowCheck (s .window .first .0) (s .window .last .0) then claimCheck c then n then roomCheck s) (same-table rates .same-check (c .cell))
+
+  -- a claim that is taken passes the checks of the table
+  passed : addCheckWith Plain s c rates ≡ 0 → checkOf Plain rates (c .cell) ≡ 0
+  unfolding addCheckWith
+  passed e =
+      let w = then-passed (windowCheck (s .window .first .0) (s .window .last .0)) _ e in
+      let k = then-passed (claimCheck c) _ (w .1) in
+      then-passed (checkOf Plain rates (c .cell)) (roomCheck s) (k .1) .0
+
+  prepared-share : checkOf Plain rates (c .cell) ≡ 0 → shareWith Prepared (s .window) (preparedOf rates) c ≡ shareWith Plain (s .window) rates c
+  unfolding shareWith
+  prepared-share e =
+      ap₂ (λ (r d : ℕ → ℤ). recordSums r d (monthRecords c (s .window .first .0) (s .window .last .0)))
+      (fun-ext (λ d. same-table rates .same-recovery (c .cell) d e)) (fun-ext (λ d. same-table rates .same-death (c .cell) d e))
+
+  -- the study with one claim more and a share of it
+  abbrev one-more : Sums → Study
+  one-more x = record { window = s .window; taken = s .taken + 1; sums = plus (s .sums) x }
+
+  prepared-added : addedWith Prepared s c (preparedOf rates) ≡ addedWith Plain s c rates
+  unfolding addedWith
+  prepared-added =
+      let n = addCheckWith Plain s c rates in
+      let before : Sums = shareWith Prepared (s .window) (preparedOf rates) c in
+      let after : Sums = shareWith Plain (s .window) rates c in
+      rw prepared-number
+      (by (eqb n 0) (λ t. answer n (pick t (one-more before) s) ≡ answer n (pick t (one-more after) s))
+      (λ q. ap (λ (x : Sums). answer n (one-more x)) (prepared-share (passed (eqb-true n 0 q)))) (λ q. refl))
+
+pub same-adding : SameAdding
+same-adding = record { plain = plain-added; prepared = λ s c rates. prepared-added s c rates ∙ plain-added s c rates }
+
+-- the answer of adding to lent sums, as that of adding to a study
+module _ (kind : Kind) (s : Study) (c : Claim) (rates : List ℕ) (z : Shaped (s .sums)) (n : ℕ) (t : Sums) (p : n ≡ addedTo kind rates c s .refused)
+    (q : t ≡ addedTo kind rates c s .study .sums) where
+  whole : addedTo kind rates c s ≡ addedWith kind s c rates
+  unfolding addedTo
+  whole = rw (is-shaped (s .sums) z)
+
+  number : n ≡ addedWith kind s c rates .refused
+  number = p ∙ ap (λ (a : Answer). a .refused) whole
+
+  sums-are : t ≡ addedWith kind s c rates .study .sums
+  sums-are = q ∙ ap (λ (a : Answer). a .study .sums) whole
+
+  -- a refusal leaves the sums
+  pub lent-kept : (n ≡ 0 → ⊥) → t ≡ s .sums
+  unfolding addedWith
+  lent-kept h = rw (← number, ne-eqb n 0 h) at sums-are
+
+  pub lent-refused : (n ≡ 0 → ⊥) → answer n s ≡ addedWith kind s c rates
+  unfolding addedWith
+  lent-refused h = rw (← number, ne-eqb n 0 h) refl
+
+  pub lent-taken : n ≡ 0 → answer 0 (lentStudy (s .window) (s .taken + 1) t) ≡ addedWith kind s c rates
+  unfolding addedWith
+  lent-taken h =
+      let e : addCheckWith kind s c rates ≡ 0 = sym number ∙ h in
+      let u = rw e at sums-are in
+      rw e (ap (λ (x : Sums). answer 0 (lentStudy (s .window) (s .taken + 1) x)) u)
+
+  -- a claim is taken only where there is room
+  pub lent-room : n ≡ 0 → s .taken < 500000
+  unfolding addedWith addCheckWith roomCheck
+  lent-room h =
+      let w = then-passed (windowCheck (s .window .first .0) (s .window .last .0)) _ (sym number ∙ h) in
+      let k = then-passed (claimCheck c) _ (w .1) in
+      let r = then-passed (checkOf kind rates (c .cell)) (roomCheck s) (k .1) in
+      has-room s (check-passed (hasRoom s) 9 (omega tests) (r .1)) .taken
+
+  -- the lists keep their lengths
+  pub lent-shaped : Shaped t
+  unfolding addedWith
+  lent-shaped =
+      subst⁻¹ Shaped sums-are
+      (by (eqb (addCheckWith kind s c rates) 0) (λ y. Shaped (pick y (one-more s c rates (shareWith kind (s .window) rates c)) s .sums)) (λ q. each-shaped _+ℤ_ _+_ (s .sums) _) (λ q. z))
