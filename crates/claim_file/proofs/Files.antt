@@ -31,7 +31,7 @@ use Rattle.study.proofs.Demand3.{opens-window}
 use Rattle.claim_file.specs.declared.WindowDates.{WindowDates}
 use Rattle.claim_file.specs.declared.FileRun.{FileRun}
 use Rattle.claim_file.specs.Block.{blockClaim, claimCount, framed, windowBlock, blockSound, windowBytes}
-use Rattle.claim_file.specs.Run.{started, begun, goesOn, stops, claimsFrom, blockFed, blocksFed, partFed, fed, ended, fileRun}
+use Rattle.claim_file.specs.Run.{adding, started, begun, goesOn, stops, claimsFrom, blockFed, blocksFed, partFed, fed, ended, fileRunWith}
 use Rattle.claim_file.specs.Files.{runOf, claimsOfBlock, claimsOfBlocks, fileClaims, Accepts, windowDays, SameEnd, HasStudy, FilesDemand3}
 use Rattle.claim_file.specs.RoundTrip.{DateFits}
 use Rattle.claim_file.proofs.BlockTrips.{window-sound, window-first, window-last}
@@ -190,46 +190,46 @@ module _ (rates : List ℕ) where
     withStudy p = record { study = studyOf w rates (p .claims); due = p .due; refused = p .refused; block = p .block; place = p .place }
 
     claims-plain : (p : Plain) (bytes : List ℕ) (n k : ℕ) (cs : List Claim) → All (Accepted rates) cs
-        → claimsFrom (withStudy p) (studyOf w rates cs) rates bytes k n ≡ withStudy (plainClaims p cs bytes k n)
+        → claimsFrom (withStudy p) (studyOf w rates cs) (adding rates) bytes k n ≡ withStudy (plainClaims p cs bytes k n)
     unfolding claimsFrom plainClaims goesOn stops withStudy
     claims-plain p bytes zero k cs a = refl
     claims-plain p bytes (suc n) k cs a =
         let c = blockClaim bytes k in
         let r = withStudy p in
         let m = numberAfter rates cs c in
-        ap (λ (x : Answer). pick (eqb (x .refused) 0) (claimsFrom r (x .study) rates bytes (suc k) n) (stops r (x .study) (x .refused) (suc k)))
+        ap (λ (x : Answer). pick (eqb (x .refused) 0) (claimsFrom r (x .study) (adding rates) bytes (suc k) n) (stops r (x .study) (x .refused) (suc k)))
         (added-after w rates ok cs c a)
         ∙ by (eqb m 0)
-        (λ y. pick y (claimsFrom r (studyOf w rates (pick y (c ∷ cs) cs)) rates bytes (suc k) n) (stops r (studyOf w rates (pick y (c ∷ cs) cs)) m (suc k))
+        (λ y. pick y (claimsFrom r (studyOf w rates (pick y (c ∷ cs) cs)) (adding rates) bytes (suc k) n) (stops r (studyOf w rates (pick y (c ∷ cs) cs)) m (suc k))
         ≡ withStudy (pick y (plainClaims p (c ∷ cs) bytes (suc k) n) (stop p cs m (suc k))))
         (λ q. claims-plain p bytes n (suc k) (c ∷ cs) (zero-accepted rates cs c (eqb-true m 0 q), a)) (λ q. refl)
 
-    block-plain : (p : Plain) (bytes : List ℕ) → Good p → blockFed (withStudy p) rates bytes ≡ withStudy (plainBlock p bytes)
+    block-plain : (p : Plain) (bytes : List ℕ) → Good p → blockFed (withStudy p) (adding rates) bytes ≡ withStudy (plainBlock p bytes)
     unfolding blockFed begun plainBlock stops withStudy
     block-plain p bytes g =
         rw (ne-eqb (p .due) 0 (λ q. omega (tests, g .behind)))
         (by (blockSound (p .due) bytes)
         (λ y.
         pick (eqb (pick {A = Answer} y (record { refused = 0; study = studyOf w rates (p .claims) }) (record { refused = 11; study = studyOf w rates (p .claims) }) .refused) 0)
-        (claimsFrom (withStudy p) (pick {A = Answer} y (record { refused = 0; study = studyOf w rates (p .claims) }) (record { refused = 11; study = studyOf w rates (p .claims) }) .study) rates bytes 0 (claimCount bytes))
+        (claimsFrom (withStudy p) (pick {A = Answer} y (record { refused = 0; study = studyOf w rates (p .claims) }) (record { refused = 11; study = studyOf w rates (p .claims) }) .study) (adding rates) bytes 0 (claimCount bytes))
         (stops (withStudy p) (pick {A = Answer} y (record { refused = 0; study = studyOf w rates (p .claims) }) (record { refused = 11; study = studyOf w rates (p .claims) }) .study)
         (pick {A = Answer} y (record { refused = 0; study = studyOf w rates (p .claims) }) (record { refused = 11; study = studyOf w rates (p .claims) }) .refused) 0)
         ≡ withStudy (pick y (plainClaims p (p .claims) bytes 0 (claimCount bytes)) (stop p (p .claims) 11 0)))
         (λ q. claims-plain p bytes (claimCount bytes) 0 (p .claims) (g .accepted)) (λ q. refl))
 
-    blocks-plain : (n : ℕ) (p : Plain) (bytes : List ℕ) → Good p → blocksFed (withStudy p) rates bytes n ≡ withStudy (plainBlocks p bytes n)
+    blocks-plain : (n : ℕ) (p : Plain) (bytes : List ℕ) → Good p → blocksFed (withStudy p) (adding rates) bytes n ≡ withStudy (plainBlocks p bytes n)
     unfolding blocksFed plainBlocks withStudy
     blocks-plain zero p bytes g = refl
     blocks-plain (suc n) p bytes g =
         by (eqb (p .refused) 0)
-        (λ y. pick y (blocksFed (blockFed (withStudy p) rates (take 512 bytes)) rates (drop 512 bytes) n) (withStudy p)
+        (λ y. pick y (blocksFed (blockFed (withStudy p) (adding rates) (take 512 bytes)) (adding rates) (drop 512 bytes) n) (withStudy p)
         ≡ withStudy (pick y (plainBlocks (plainBlock p (take 512 bytes)) (drop 512 bytes) n) p))
         (λ q.
-        ap (λ (r : FileRun). blocksFed r rates (drop 512 bytes) n) (block-plain p (take 512 bytes) g)
+        ap (λ (r : FileRun). blocksFed r (adding rates) (drop 512 bytes) n) (block-plain p (take 512 bytes) g)
         ∙ blocks-plain n (plainBlock p (take 512 bytes)) (drop 512 bytes) (block-good p (take 512 bytes) g))
         (λ q. refl)
 
-    fed-plain : (p : Plain) (bytes : List ℕ) → Good p → fed (withStudy p) rates bytes ≡ withStudy (plainFed p bytes)
+    fed-plain : (p : Plain) (bytes : List ℕ) → Good p → fed (withStudy p) (adding rates) bytes ≡ withStudy (plainFed p bytes)
     unfolding fed partFed plainFed stops withStudy
     fed-plain p bytes g =
         let q = plainBlocks p bytes (length bytes / 512) in
@@ -265,7 +265,7 @@ module _ (rates : List ℕ) (w : WindowDates) (ok : Accepts w) where
   sound-days : windowSound (windowDays w .first .0) (windowDays w .last .0) ≡ true
   sound-days = dates-sound (w .first) (w .last) (opens .0)
 
-  window-block : blockFed started rates (windowBytes (w .first) (w .last)) ≡ withStudy rates (windowDays w) sound-days first
+  window-block : blockFed started (adding rates) (windowBytes (w .first) (w .last)) ≡ withStudy rates (windowDays w) sound-days first
   unfolding blockFed begun blockSound claimsFrom goesOn started withStudy
   window-block =
       let d = both-dates (w .first) (w .last) (opens .0) in
@@ -280,19 +280,19 @@ module _ (rates : List ℕ) (w : WindowDates) (ok : Accepts w) where
         fresh-built (windowDays w) rates,
       )
 
-  window-fed : fed started rates (windowBytes (w .first) (w .last)) ≡ withStudy rates (windowDays w) sound-days first
+  window-fed : fed started (adding rates) (windowBytes (w .first) (w .last)) ≡ withStudy rates (windowDays w) sound-days first
   unfolding fed blocksFed partFed started withStudy
   window-fed =
       let n = window-length (w .first) (w .last) in
       rw (n, take-all 512 (windowBytes (w .first) (w .last)) (omega tests), window-block)
 
   run-plain : (rest : List ℕ) → runOf rates rest w ≡ withStudy rates (windowDays w) sound-days (plainFed rates first rest)
-  unfolding runOf fileRun
+  unfolding runOf fileRunWith
   run-plain rest =
       let g : Good rates first = record { accepted = tt; behind = omega tests } in
       ap ended
-      (sym (fed-in-pieces started rates (windowBytes (w .first) (w .last)) rest (ap (λ (x : ℕ). x % 512) (window-length (w .first) (w .last))))
-      ∙ ap (λ (r : FileRun). fed r rates rest) window-fed ∙ fed-plain rates (windowDays w) sound-days first rest g)
+      (sym (fed-in-pieces started (adding rates) (windowBytes (w .first) (w .last)) rest (ap (λ (x : ℕ). x % 512) (window-length (w .first) (w .last))))
+      ∙ ap (λ (r : FileRun). fed r (adding rates) rest) window-fed ∙ fed-plain rates (windowDays w) sound-days first rest g)
       ∙ ended-plain rates (windowDays w) sound-days (plainFed rates first rest) (fed-good rates first rest g)
 
   -- not refused, its study is that of the file's claims

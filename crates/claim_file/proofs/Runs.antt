@@ -14,11 +14,11 @@ use Rattle.basics.specs.Pick.{pick}
 use Rattle.basics.proofs.Tests.{by, tests}
 use Rattle.study.specs.declared.Study.{Study}
 use Rattle.study.specs.declared.Answer.{Answer}
-use Rattle.study.specs.Study.{opened, added}
+use Rattle.study.specs.Study.{opened}
 use Rattle.claim_file.specs.declared.FileRun.{FileRun}
 use Rattle.claim_file.specs.Bytes.{byteAt, twoAt, dateFrom}
 use Rattle.claim_file.specs.Block.{blockClaim, claimCount, windowBlock, claimBlock, blockSound}
-use Rattle.claim_file.specs.Run.{begun, goesOn, stops, claimsFrom, blockFed, blocksFed, partFed, fed}
+use Rattle.claim_file.specs.Run.{Adding, begun, goesOn, stops, claimsFrom, blockFed, blocksFed, partFed, fed}
 use Rattle.claim_file.proofs.BlockTests.{framed-number, claim-block, window-block}
 
 -- a sound block, as facts
@@ -71,25 +71,25 @@ unfolding begun
 begun-part s due bytes h = rw (not-sound due bytes h)
 
 -- a block that an answer begins, and a claim that an answer adds at place k of n, as the test of the number refused comes out
-abbrev begins : FileRun → List ℕ → List ℕ → Answer → Bool → FileRun
-begins r rates bytes a t = pick t (claimsFrom r (a .study) rates bytes 0 (claimCount bytes)) (stops r (a .study) (a .refused) 0)
+abbrev begins : FileRun → Adding → List ℕ → Answer → Bool → FileRun
+begins r add bytes a t = pick t (claimsFrom r (a .study) add bytes 0 (claimCount bytes)) (stops r (a .study) (a .refused) 0)
 
-abbrev adds : FileRun → List ℕ → List ℕ → ℕ → ℕ → Answer → Bool → FileRun
-adds r rates bytes k n a t = pick t (claimsFrom r (a .study) rates bytes k n) (stops r (a .study) (a .refused) k)
+abbrev adds : FileRun → Adding → List ℕ → ℕ → ℕ → Answer → Bool → FileRun
+adds r add bytes k n a t = pick t (claimsFrom r (a .study) add bytes k n) (stops r (a .study) (a .refused) k)
 
-block-begun : (r : FileRun) (rates bytes : List ℕ)
-    → blockFed r rates bytes ≡ begins r rates bytes (begun (r .study) (r .due) bytes) (eqb (begun (r .study) (r .due) bytes .refused) 0)
+block-begun : (r : FileRun) (add : Adding) (bytes : List ℕ)
+    → blockFed r add bytes ≡ begins r add bytes (begun (r .study) (r .due) bytes) (eqb (begun (r .study) (r .due) bytes .refused) 0)
 unfolding blockFed
-block-begun r rates bytes = refl
+block-begun r add bytes = refl
 
 -- a refused run takes no more
-module _ (r : FileRun) (rates bytes : List ℕ) (h : r .refused ≡ 0 → ⊥) where
-  pub blocks-refused : (n : ℕ) → blocksFed r rates bytes n ≡ r
+module _ (r : FileRun) (add : Adding) (bytes : List ℕ) (h : r .refused ≡ 0 → ⊥) where
+  pub blocks-refused : (n : ℕ) → blocksFed r add bytes n ≡ r
   unfolding blocksFed
   blocks-refused zero = refl
   blocks-refused (suc n) = rw (ne-eqb _ _ h)
 
-  pub fed-refused : fed r rates bytes ≡ r
+  pub fed-refused : fed r add bytes ≡ r
   unfolding fed partFed
   fed-refused = rw (blocks-refused (length bytes / 512), ne-eqb _ _ h)
 
@@ -102,49 +102,49 @@ unfolding stops
 stops-refused r s number place h = h
 
 -- no bytes leave a run as it is
-pub fed-none : (r : FileRun) (rates bytes : List ℕ) → length bytes ≡ 0 → fed r rates bytes ≡ r
+pub fed-none : (r : FileRun) (add : Adding) (bytes : List ℕ) → length bytes ≡ 0 → fed r add bytes ≡ r
 unfolding fed partFed blocksFed
-fed-none r rates bytes e = rw (e, and-false (eqb (r .refused) 0))
+fed-none r add bytes e = rw (e, and-false (eqb (r .refused) 0))
 
 -- a part block is refused 11
-fed-part : (r : FileRun) (rates bytes : List ℕ) → r .refused ≡ 0 → 0 < length bytes → length bytes < 512 → fed r rates bytes ≡ stops r (r .study) 11 0
+fed-part : (r : FileRun) (add : Adding) (bytes : List ℕ) → r .refused ≡ 0 → 0 < length bytes → length bytes < 512 → fed r add bytes ≡ stops r (r .study) 11 0
 unfolding fed partFed blocksFed
-fed-part r rates bytes e a b =
+fed-part r add bytes e a b =
     let z : length bytes / 512 ≡ 0 = omega arith in
     let m : 0 < length bytes % 512 = omega arith in
     rw (z, eq-eqb _ _ e, lt-ltb _ _ m)
 
 -- a whole block, and then the rest
-pub fed-block : (r : FileRun) (rates bytes : List ℕ) → r .refused ≡ 0 → 512 ≤ length bytes
-    → fed r rates bytes ≡ fed (blockFed r rates (take 512 bytes)) rates (drop 512 bytes)
+pub fed-block : (r : FileRun) (add : Adding) (bytes : List ℕ) → r .refused ≡ 0 → 512 ≤ length bytes
+    → fed r add bytes ≡ fed (blockFed r add (take 512 bytes)) add (drop 512 bytes)
 unfolding fed blocksFed
-fed-block r rates bytes e h =
+fed-block r add bytes e h =
     let l = length-drop 512 bytes in
     let q : length bytes / 512 ≡ suc (length (drop 512 bytes) / 512) = omega arith in
     let m : length bytes % 512 ≡ length (drop 512 bytes) % 512 = omega arith in
     rw (q, eq-eqb _ _ e, m)
 
 -- claims one at a time
-module _ (r : FileRun) (s : Study) (rates bytes : List ℕ) (k n : ℕ) (h : k < n) (a : Answer) (q : a ≡ added s (blockClaim bytes k) rates) where
-  claims-step : claimsFrom r s rates bytes k (n - k) ≡ adds r rates bytes (k + 1) (n - (k + 1)) a (eqb (a .refused) 0)
+module _ (r : FileRun) (s : Study) (add : Adding) (bytes : List ℕ) (k n : ℕ) (h : k < n) (a : Answer) (q : a ≡ add s (blockClaim bytes k)) where
+  claims-step : claimsFrom r s add bytes k (n - k) ≡ adds r add bytes (k + 1) (n - (k + 1)) a (eqb (a .refused) 0)
   unfolding claimsFrom
   claims-step =
       let e : n - k ≡ suc (n - (k + 1)) = omega arith in
       let g : suc k ≡ k + 1 = omega arith in
-      ap (claimsFrom r s rates bytes k) e ∙ (λ i. adds r rates bytes (g i) (n - (k + 1)) (sym q i) (eqb (sym q i .refused) 0))
+      ap (claimsFrom r s add bytes k) e ∙ (λ i. adds r add bytes (g i) (n - (k + 1)) (sym q i) (eqb (sym q i .refused) 0))
 
-  pub claims-on : a .refused ≡ 0 → claimsFrom r s rates bytes k (n - k) ≡ claimsFrom r (a .study) rates bytes (k + 1) (n - (k + 1))
-  claims-on e = claims-step ∙ ap (adds r rates bytes (k + 1) (n - (k + 1)) a) (eq-eqb _ _ e)
+  pub claims-on : a .refused ≡ 0 → claimsFrom r s add bytes k (n - k) ≡ claimsFrom r (a .study) add bytes (k + 1) (n - (k + 1))
+  claims-on e = claims-step ∙ ap (adds r add bytes (k + 1) (n - (k + 1)) a) (eq-eqb _ _ e)
 
-  pub claims-off : (a .refused ≡ 0 → ⊥) → claimsFrom r s rates bytes k (n - k) ≡ stops r (a .study) (a .refused) (k + 1)
-  claims-off e = claims-step ∙ ap (adds r rates bytes (k + 1) (n - (k + 1)) a) (ne-eqb _ _ e)
+  pub claims-off : (a .refused ≡ 0 → ⊥) → claimsFrom r s add bytes k (n - k) ≡ stops r (a .study) (a .refused) (k + 1)
+  claims-off e = claims-step ∙ ap (adds r add bytes (k + 1) (n - (k + 1)) a) (ne-eqb _ _ e)
 
-pub claims-start : (r : FileRun) (s : Study) (rates bytes : List ℕ) (n : ℕ) → claimsFrom r s rates bytes 0 n ≡ claimsFrom r s rates bytes 0 (n - 0)
-claims-start r s rates bytes n = let e : n ≡ n - 0 = omega arith in ap (claimsFrom r s rates bytes 0) e
+pub claims-start : (r : FileRun) (s : Study) (add : Adding) (bytes : List ℕ) (n : ℕ) → claimsFrom r s add bytes 0 n ≡ claimsFrom r s add bytes 0 (n - 0)
+claims-start r s add bytes n = let e : n ≡ n - 0 = omega arith in ap (claimsFrom r s add bytes 0) e
 
-pub claims-end : (r : FileRun) (s : Study) (rates bytes : List ℕ) (k n : ℕ) → n ≤ k → claimsFrom r s rates bytes k (n - k) ≡ goesOn r s
+pub claims-end : (r : FileRun) (s : Study) (add : Adding) (bytes : List ℕ) (k n : ℕ) → n ≤ k → claimsFrom r s add bytes k (n - k) ≡ goesOn r s
 unfolding claimsFrom
-claims-end r s rates bytes k n h = let e : n - k ≡ 0 = omega arith in rw e
+claims-end r s add bytes k n h = let e : n - k ≡ 0 = omega arith in rw e
 
 -- a block's bytes are the first 512 of those left, or all of them if they are fewer
 pub part-is : (bytes : List ℕ) (from to : ℕ) → to ≡ from + (512 - (512 - (length bytes - from)))
@@ -156,32 +156,32 @@ part-is bytes from to e =
     (λ t. let q : to - from ≡ 512 = omega tests in ap (λ (n : ℕ). take n (drop from bytes)) q)
 
 -- feeding some bytes by their first block
-module _ (r : FileRun) (rates bytes part : List ℕ) (p : part ≡ take 512 bytes) (u : r .refused ≡ 0) (a : Answer) (q : a ≡ begun (r .study) (r .due) part) where
-  fed-first : 512 ≤ length bytes → fed r rates bytes ≡ fed (begins r rates part a (eqb (a .refused) 0)) rates (drop 512 bytes)
+module _ (r : FileRun) (add : Adding) (bytes part : List ℕ) (p : part ≡ take 512 bytes) (u : r .refused ≡ 0) (a : Answer) (q : a ≡ begun (r .study) (r .due) part) where
+  fed-first : 512 ≤ length bytes → fed r add bytes ≡ fed (begins r add part a (eqb (a .refused) 0)) add (drop 512 bytes)
   fed-first l =
-      fed-block r rates bytes u l
-      ∙ ap (λ (b : List ℕ). fed (blockFed r rates b) rates (drop 512 bytes)) (sym p)
-      ∙ ap (λ (x : FileRun). fed x rates (drop 512 bytes)) (block-begun r rates part ∙ (λ i. begins r rates part (sym q i) (eqb (sym q i .refused) 0)))
+      fed-block r add bytes u l
+      ∙ ap (λ (b : List ℕ). fed (blockFed r add b) add (drop 512 bytes)) (sym p)
+      ∙ ap (λ (x : FileRun). fed x add (drop 512 bytes)) (block-begun r add part ∙ (λ i. begins r add part (sym q i) (eqb (sym q i .refused) 0)))
 
-  pub fed-stops : 0 < length bytes → (a .refused ≡ 0 → ⊥) → fed r rates bytes ≡ stops r (a .study) (a .refused) 0
+  pub fed-stops : 0 < length bytes → (a .refused ≡ 0 → ⊥) → fed r add bytes ≡ stops r (a .study) (a .refused) 0
   fed-stops l h =
-      by (ltb (length bytes) 512) (λ _. fed r rates bytes ≡ stops r (a .study) (a .refused) 0)
+      by (ltb (length bytes) 512) (λ _. fed r add bytes ≡ stops r (a .study) (a .refused) 0)
       (λ t.
       let s : length bytes < 512 = omega tests in
       let w : length part ≡ 512 → ⊥ = λ z. absurd (omega (arith, ap length (p ∙ take-all 512 bytes (omega arith)))) in
       let b : a ≡ record { refused = 11; study = r .study } = q ∙ begun-part (r .study) (r .due) part w in
-      fed-part r rates bytes u l s ∙ ap (λ (x : Answer). stops r (x .study) (x .refused) 0) (sym b))
+      fed-part r add bytes u l s ∙ ap (λ (x : Answer). stops r (x .study) (x .refused) 0) (sym b))
       (λ t.
       fed-first (omega tests)
-      ∙ ap (λ (t : Bool). fed (begins r rates part a t) rates (drop 512 bytes)) (ne-eqb _ _ h)
-      ∙ fed-refused (stops r (a .study) (a .refused) 0) rates (drop 512 bytes) (stops-refused r (a .study) (a .refused) 0 h))
+      ∙ ap (λ (t : Bool). fed (begins r add part a t) add (drop 512 bytes)) (ne-eqb _ _ h)
+      ∙ fed-refused (stops r (a .study) (a .refused) 0) add (drop 512 bytes) (stops-refused r (a .study) (a .refused) 0 h))
 
   pub begun-so : a .refused ≡ 0 → Sound (r .due) part
   begun-so h = sound (r .due) part (begun-sound (r .study) (r .due) part (ap (λ (x : Answer). x .refused) (sym q) ∙ h))
 
-  pub fed-claims : a .refused ≡ 0 → fed r rates bytes ≡ fed (claimsFrom r (a .study) rates part 0 (getD part 2 0)) rates (drop 512 bytes)
+  pub fed-claims : a .refused ≡ 0 → fed r add bytes ≡ fed (claimsFrom r (a .study) add part 0 (getD part 2 0)) add (drop 512 bytes)
   unfolding claimCount byteAt
   fed-claims h =
       let s = begun-so h .length-so in
       fed-first (omega (arith, ap length p, length-take 512 bytes))
-      ∙ ap (λ (t : Bool). fed (begins r rates part a t) rates (drop 512 bytes)) (eq-eqb _ _ h)
+      ∙ ap (λ (t : Bool). fed (begins r add part a t) add (drop 512 bytes)) (eq-eqb _ _ h)

@@ -4,5 +4,6 @@ pub mod Record
 pub mod Block
 pub mod BlockAnswers
 pub mod Run
+pub mod PreparedRuns
 pub mod Files
 pub mod RoundTrip

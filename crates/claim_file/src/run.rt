@@ -2,15 +2,21 @@
 ghost use mathlib.Core.Path.{_≡_};
 ghost use Prim.Native.Nat.{_+_, _-_, _≤_, _<_};
 ghost use denote.Ref.{now};
-ghost use Rattle.claim_file.specs.Run.{started, begun, goesOn, stops, fed, ended, fileRun};
+ghost use Rattle.study.specs.PreparedAdding.{lentSums, lentStudy};
+ghost use Rattle.claim_file.specs.Run.{adding, started, begun, goesOn, stops, fed, ended, fileRunWith, fileRun};
+ghost use Rattle.claim_file.specs.PreparedRuns.{addingWith};
 use crate::FileRun;
 use crate::blocks::claim_at;
 use crate::blocks::is_sound;
 use crate::bytes::date_at;
 use basics::refusal;
 use calendar::Date;
+use claim_months::Window;
+use rates::Kind;
 use study::Answer;
 use study::Study;
+use study::Sums;
+use study::add_to;
 
 // Where the block that starts at a byte ends: 512 bytes on, or with the file.
 fn block_end(at: usize, len: usize) -> usize
@@ -38,6 +44,30 @@ fn begin(study: Study, due: u32, bytes: &[u8]) -> Answer
         return Study::open(date_at(bytes, 16), date_at(bytes, 20));
     }
     Answer { refused: 0, study }
+}
+
+// A study from its parts.
+fn study_of(
+    window: Window,
+    taken: u32,
+    thirtieths: [i64; 5],
+    closings: [u32; 25],
+    recoveries: [i64; 5],
+    deaths: [i64; 5],
+) -> Study
+    ensures { λ r. ⌜ r ≡ lentStudy window taken (lentSums thirtieths closings recoveries deaths) ⌝ }
+{
+    let sums = Sums {
+        thirtieths,
+        closings,
+        recoveries,
+        deaths,
+    };
+    Study {
+        window,
+        taken,
+        sums,
+    }
 }
 
 impl FileRun {
@@ -88,9 +118,10 @@ impl FileRun {
         }
     }
 
-    // The run with the blocks of some bytes taken, a part block at the end with them, up to the first refusal.
-    pub fn feed(self, rates: &[u32], bytes: &[u8]) -> FileRun
-        ensures { λ r. ⌜ r ≡ fed self (now (rates .entry)) (now (bytes .entry)) ⌝ }
+    // The run with the blocks of some bytes taken, a part block at the end with them, up to the first refusal, with a table of either
+    // kind. The sums are lent to each addition: a study handed on by value would be a copy with each claim.
+    pub fn feed_with(self, kind: Kind, table: &[u32], bytes: &[u8]) -> FileRun
+        ensures { λ r. ⌜ r ≡ fed self (addingWith kind (now (table .entry))) (now (bytes .entry)) ⌝ }
     {
         let mut run = self;
         if run.refused != 0 {
@@ -101,27 +132,52 @@ impl FileRun {
             let end = block_end(at, bytes.len());
             let part = &bytes[at..end];
             let begun = begin(run.study, run.due, part);
-            let mut study = begun.study;
+            let study = begun.study;
             if begun.refused != 0 {
                 run = run.stopped(study, begun.refused, 0);
                 break 'file;
             }
+            let window = study.window;
+            let sums = study.sums;
+            let mut taken = study.taken;
+            let mut thirtieths = sums.thirtieths;
+            let mut closings = sums.closings;
+            let mut recoveries = sums.recoveries;
+            let mut deaths = sums.deaths;
             let count = part[2];
             let mut place = 0;
             while place < count {
-                let answer = study.add(claim_at(part, place), rates);
-                let after = answer.study;
-                study = after;
-                if answer.refused != 0 {
-                    run = run.stopped(study, answer.refused, place + 1);
+                let claim = claim_at(part, place);
+                let refused = add_to(
+                    kind,
+                    table,
+                    claim,
+                    window,
+                    taken,
+                    &mut thirtieths,
+                    &mut closings,
+                    &mut recoveries,
+                    &mut deaths,
+                );
+                if refused != 0 {
+                    let study = study_of(window, taken, thirtieths, closings, recoveries, deaths);
+                    run = run.stopped(study, refused, place + 1);
                     break 'file;
                 }
+                taken += 1;
                 place += 1;
             }
-            run = run.continued(study);
+            run = run.continued(study_of(window, taken, thirtieths, closings, recoveries, deaths));
             at = end;
         }
         run
+    }
+
+    // The same with plain rates.
+    pub fn feed(self, rates: &[u32], bytes: &[u8]) -> FileRun
+        ensures { λ r. ⌜ r ≡ fed self (adding (now (rates .entry))) (now (bytes .entry)) ⌝ }
+    {
+        self.feed_with(Kind::Plain, rates, bytes)
     }
 
     // The run at the end of its file: one without block 0 is refused 11.
@@ -139,9 +195,16 @@ impl FileRun {
     }
 }
 
+// The run of a whole file, with a table of either kind.
+pub fn run_with(kind: Kind, table: &[u32], bytes: &[u8]) -> FileRun
+    ensures { λ r. ⌜ r ≡ fileRunWith (addingWith kind (now (table .entry))) (now (bytes .entry)) ⌝ }
+{
+    FileRun::start().feed_with(kind, table, bytes).end()
+}
+
 // The run of a whole file.
 pub fn run_file(rates: &[u32], bytes: &[u8]) -> FileRun
     ensures { λ r. ⌜ r ≡ fileRun (now (rates .entry)) (now (bytes .entry)) ⌝ }
 {
-    FileRun::start().feed(rates, bytes).end()
+    run_with(Kind::Plain, rates, bytes)
 }
