@@ -48,6 +48,15 @@ uint64_t ltd_listing(uint32_t first, uint32_t last, const uint8_t *claim, size_t
    settlement, max-out, limit), expected recoveries, expected deaths. 255 if out is shorter than 46. */
 uint8_t ltd_file_study(const uint8_t *file, size_t file_len, const uint32_t *rates, size_t rates_len, int64_t *out, size_t out_len);
 
+/* Prepares a table of 958 x n + 1 numbers in place, n 1 to 64, the last one 0: the rates of each cell that is sound are replaced by their
+   running sums, an unsound cell is marked, and the last number becomes 1. Answers 0, or 6 with the table untouched (another length, or a
+   last number that is not 0). */
+uint8_t ltd_prepare(uint32_t *table, size_t table_len);
+
+/* The study of a whole claim file with a prepared table: as ltd_file_study with the rates that were prepared, and faster. Refusal 6 says
+   that the table is not a prepared one. 255 if out is shorter than 46. */
+uint8_t ltd_prepared_file_study(const uint8_t *file, size_t file_len, const uint32_t *table, size_t table_len, int64_t *out, size_t out_len);
+
 /* z, m and T of a group into out (3 numbers). Answers 0, or 12. 255 if out is shorter than 3. */
 uint8_t ltd_factor(uint8_t group, uint32_t terminations, int64_t expected, uint64_t *out, size_t out_len);
 

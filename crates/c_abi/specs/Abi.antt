@@ -80,7 +80,7 @@ groupsNumbers s (suc n) = groupsNumbers s n ++ groupNumbers (groupFigures s (n +
 unfoldable pub studyNumbers : Study → List ℤ
 studyNumbers s = pos (s .window .first .0) ∷ pos (s .window .last .0) ∷ pos (s .taken) ∷ groupsNumbers (s .sums) 5
 
--- ltd_file_study: number, block and place of a run, and its study
+-- ltd_file_study and ltd_prepared_file_study: number, block and place of a run, and its study
 unfoldable pub runNumbers : FileRun → List ℤ
 runNumbers r = pos (r .refused) ∷ pos (r .block) ∷ pos (r .place) ∷ studyNumbers (r .study)
 

@@ -1,12 +1,33 @@
-// The call for the study of a whole claim file.
+// The calls for the study of a whole claim file, and for preparing a rate table.
 ghost use mathlib.Core.Path.{_≡_};
 ghost use denote.Ref.{now};
 ghost use lib.Seq.{sets};
-ghost use Rattle.claim_file.specs.Run.{fileRun};
+ghost use Rattle.rates.specs.declared.Kind.the-variants.{Prepared};
+ghost use Rattle.rates.specs.Prepared.{prepareCheck, prepareAfter};
+ghost use Rattle.claim_file.specs.Run.{fileRunWith, fileRun};
+ghost use Rattle.claim_file.specs.PreparedRuns.{addingWith};
 ghost use Rattle.c_abi.specs.Abi.{runNumbers, answered, stored};
 use crate::study_list::put;
 use crate::study_list::put_study;
 use crate::study_list::signed;
+use claim_file::FileRun;
+use rates::Kind;
+
+// Stores number, block and place of a run, and its study, and answers the number.
+fn put_run(run: FileRun, out: &mut [i64]) -> u8
+    ensures { λ r. ⌜ r ≡ answered 46 (now (out .entry)) (run .refused) ⌝ }
+    ensures { λ _. ⌜ now (out .exit) ≡ stored 46 (now (out .entry)) (sets (now (out .entry)) 0 (runNumbers run)) ⌝ }
+{
+    if out.len() < 46 {
+        return 255;
+    }
+    let study = run.study;
+    put(signed(run.refused as u32), 0, out);
+    put(signed(run.block), 1, out);
+    put(signed(run.place as u32), 2, out);
+    put_study(study, 3, out);
+    run.refused
+}
 
 // The study of a whole claim file.
 #[no_mangle]
@@ -14,14 +35,23 @@ pub extern "C" fn ltd_file_study(file: &[u8], rates: &[u32], out: &mut [i64]) ->
     ensures { λ r. ⌜ r ≡ answered 46 (now (out .entry)) (fileRun (now (rates .entry)) (now (file .entry)) .refused) ⌝ }
     ensures { λ _. ⌜ now (out .exit) ≡ stored 46 (now (out .entry)) (sets (now (out .entry)) 0 (runNumbers (fileRun (now (rates .entry)) (now (file .entry))))) ⌝ }
 {
-    if out.len() < 46 {
-        return 255;
-    }
-    let run = claim_file::run::run_file(rates, file);
-    let study = run.study;
-    put(signed(run.refused as u32), 0, out);
-    put(signed(run.block), 1, out);
-    put(signed(run.place as u32), 2, out);
-    put_study(study, 3, out);
-    run.refused
+    put_run(claim_file::run::run_file(rates, file), out)
+}
+
+// Prepares a rate table in place.
+#[no_mangle]
+pub extern "C" fn ltd_prepare(table: &mut [u32]) -> u8
+    ensures { λ r. ⌜ r ≡ prepareCheck (now (table .entry)) ⌝ }
+    ensures { λ _. ⌜ now (table .exit) ≡ prepareAfter (now (table .entry)) ⌝ }
+{
+    rates::prepared::prepare(table)
+}
+
+// The study of a whole claim file with a prepared table.
+#[no_mangle]
+pub extern "C" fn ltd_prepared_file_study(file: &[u8], table: &[u32], out: &mut [i64]) -> u8
+    ensures { λ r. ⌜ r ≡ answered 46 (now (out .entry)) (fileRunWith (addingWith Prepared (now (table .entry))) (now (file .entry)) .refused) ⌝ }
+    ensures { λ _. ⌜ now (out .exit) ≡ stored 46 (now (out .entry)) (sets (now (out .entry)) 0 (runNumbers (fileRunWith (addingWith Prepared (now (table .entry))) (now (file .entry))))) ⌝ }
+{
+    put_run(claim_file::run::run_with(Kind::Prepared, table, file), out)
 }

@@ -8,6 +8,8 @@ ghost use Rattle.claim_file.specs.Bytes.{fourAt};
 ghost use Rattle.ltd_study.specs.Input.{blockRates};
 use claim_file::FileRun;
 use libc::STDIN_FILENO;
+use rates::Kind;
+use rates::prepared::prepare;
 
 // How many bytes came, and whether a read failed.
 struct Filled {
@@ -72,7 +74,7 @@ fn rate_at(block: &[u8; 512], at: usize) -> u32
 }
 
 // Puts the rates of a block into the table from a place on.
-fn put_rates(block: &[u8; 512], rates: usize, table: &mut [u32; 15328], from: usize)
+fn put_rates(block: &[u8; 512], rates: usize, table: &mut [u32; 15329], from: usize)
     requires { ⌜ rates ≤ 128 ⌝ }
     requires { ⌜ from + rates ≤ 15328 ⌝ }
     ensures { λ _. ⌜ now (table .exit) ≡ sets (now (table .entry)) from (blockRates (now (block .entry)) rates) ⌝ }
@@ -86,7 +88,7 @@ fn put_rates(block: &[u8; 512], rates: usize, table: &mut [u32; 15328], from: us
 
 // Reads `rates.bin` into the table, and answers how many rates it has: none where it can't be read to its end, holds more than
 // 16 cells or has a part number left over.
-fn read_rates(fd: i32, table: &mut [u32; 15328]) -> usize
+fn read_rates(fd: i32, table: &mut [u32; 15329]) -> usize
     ensures { λ r. ⌜ r ≤ 15328 ⌝ }
 {
     let mut block = [0u8; 512];
@@ -112,11 +114,11 @@ fn read_rates(fd: i32, table: &mut [u32; 15328]) -> usize
 }
 
 // The run with the first bytes of a block fed.
-fn feed_bytes(run: FileRun, rates: &[u32], block: &[u8; 512], count: usize) -> FileRun
+fn feed_bytes(run: FileRun, table: &[u32], block: &[u8; 512], count: usize) -> FileRun
     requires { ⌜ count ≤ 512 ⌝ }
 {
     let bytes: &[u8] = block;
-    run.feed(rates, &bytes[0..count])
+    run.feed_with(Kind::Prepared, table, &bytes[0..count])
 }
 
 // How many bytes of a block are fed. A failed read must not look like the end of the file, so it counts as a part block.
@@ -132,13 +134,13 @@ fn fed_count(filled: Filled) -> usize
 
 // The file run of standard input, block by block. A proved loop has to end, and nothing says that the input does: the loop counts its
 // turns down, from a number that no run uses up. One run is kept: a second one would be a copy on the stack.
-fn run_input(rates: &[u32]) -> FileRun {
+fn run_input(table: &[u32]) -> FileRun {
     let mut run = FileRun::start();
     let mut block = [0u8; 512];
     let mut turns = u64::MAX;
     while turns > 0 {
         let count = fed_count(fill_block(STDIN_FILENO, &mut block));
-        run = feed_bytes(run, rates, &block, count);
+        run = feed_bytes(run, table, &block, count);
         if run.refused != 0 {
             break;
         }
@@ -150,19 +152,34 @@ fn run_input(rates: &[u32]) -> FileRun {
     run.end()
 }
 
-// The file run of standard input under the first rates of the table.
-fn run_under(table: &[u32; 15328], count: usize) -> FileRun
-    requires { ⌜ count ≤ 15328 ⌝ }
+// Prepares the first rates of the table where they stand, with the mark behind them, which has room there.
+fn prepare_rates(table: &mut [u32], rates: usize) {
+    if rates >= table.len() {
+        return;
+    }
+    table[rates] = 0;
+    let numbers = rates + 1;
+    prepare(&mut table[0..numbers]);
+}
+
+fn prepare_table(table: &mut [u32; 15329], rates: usize) {
+    prepare_rates(table, rates);
+}
+
+// The file run of standard input under the first numbers of the table.
+fn run_under(table: &[u32; 15329], numbers: usize) -> FileRun
+    requires { ⌜ numbers ≤ 15329 ⌝ }
 {
-    let rates: &[u32] = table;
-    run_input(&rates[0..count])
+    let whole: &[u32] = table;
+    run_input(&whole[0..numbers])
 }
 
 // The file run of standard input under the rates that a descriptor reads. The descriptor is closed first: with standard input
 // closed it has that number, and the rest of `rates.bin` is no claim file.
 pub fn run_with(fd: i32) -> FileRun {
-    let mut table = [0u32; 15328];
-    let count = read_rates(fd, &mut table);
+    let mut table = [0u32; 15329];
+    let rates = read_rates(fd, &mut table);
     libc::close(fd);
-    run_under(&table, count)
+    prepare_table(&mut table, rates);
+    run_under(&table, rates + 1)
 }

@@ -34,10 +34,7 @@ fn print_line(run: FileRun, number: u8, line: &mut [u8]) {
 // Prints the table of a run's study, or where it was refused.
 pub fn print_run(run: FileRun) {
     let mut line = [0u8; 160];
-    print_line(run, 0, &mut line);
-    print_line(run, 1, &mut line);
-    print_line(run, 2, &mut line);
-    print_line(run, 3, &mut line);
-    print_line(run, 4, &mut line);
-    print_line(run, 5, &mut line);
+    for number in 0..6 {
+        print_line(run, number, &mut line);
+    }
 }

@@ -1,0 +1,13 @@
+-- What is answered and stored of a run is that of the run that it is.
+-- Assumes nothing.
+use Prim.Native.Nat.{ℕ}
+use mathlib.Core.Path.{_≡_, ap, _∙_}
+use mathlib.Core.List.{List}
+use lib.IntN.{ℤ}
+use lib.Seq.{sets}
+use Rattle.claim_file.specs.declared.FileRun.{FileRun}
+use Rattle.c_abi.specs.Abi.{runNumbers, answered, stored}
+
+pub run-stored : (old l : List ℤ) (n : ℕ) (m r : FileRun) → m ≡ r → n ≡ answered 46 old (m .refused) → l ≡ stored 46 old (sets old 0 (runNumbers m))
+    → (n ≡ answered 46 old (r .refused)) × (l ≡ stored 46 old (sets old 0 (runNumbers r)))
+run-stored old l n m r e p q = (p ∙ ap (λ (k : FileRun). answered 46 old (k .refused)) e, q ∙ ap (λ (k : FileRun). stored 46 old (sets old 0 (runNumbers k))) e)
