@@ -3,8 +3,8 @@
 use crate::block::{seal, write_block, write_window, BLOCK_LENGTH, MOST_IN_BLOCK};
 use crate::calendar::{month_length, Date, Day};
 use crate::claim::{Claim, CLOSED};
+use crate::rates::{CELL_LENGTH, DURATIONS};
 use crate::rng::Rng;
-use crate::study::{CELL_LENGTH, DURATIONS};
 
 /// A day of the calendar between two day numbers, cut to the calendar.
 fn day_between(rng: &mut Rng, low: i32, high: i32) -> Day {

@@ -1,14 +1,15 @@
 //! A second implementation of document 01, written from that paper alone. The tests compare the first implementation with it, and the
 //! benchmark measures against it.
 //!
-//! Layers as in the paper: `calendar`, `claim` and `months`, `study`, `valuation`; beside them the claim file (`block`, `run`) and what
-//! the program prints (`report`); `generate` and `rng` make inputs for tests and loads.
+//! Layers as in the paper: `calendar`, `claim` and `months`, `study`, `valuation`; beside them the lent `rates`, the claim file (`block`,
+//! `run`) and what the program prints (`report`); `generate` and `rng` make inputs for tests and loads.
 
 pub mod block;
 pub mod calendar;
 pub mod claim;
 pub mod generate;
 pub mod months;
+pub mod rates;
 pub mod report;
 pub mod rng;
 pub mod run;

@@ -1,6 +1,6 @@
 //! The program: its rates file and what it prints.
 
-use crate::study::CELL_LENGTH;
+use crate::rates::CELL_LENGTH;
 use crate::valuation::Factor;
 use std::fmt::Write;
 

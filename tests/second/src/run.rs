@@ -1,7 +1,8 @@
 //! Claim file: the run over a whole file.
 
 use crate::block::{read_block, Block, BLOCK_LENGTH};
-use crate::study::{RateTable, Study};
+use crate::rates::RateTable;
+use crate::study::Study;
 use crate::Refusal;
 
 /// What a file run gives: 0 for number, block and place if not refused, and the study (so far).

@@ -1,7 +1,8 @@
 //! Valuation: z, m, T, the valuation rate and the reserve factor.
 
 use crate::claim::Duration;
-use crate::study::{duration_group, CellRates, RateTable, FIRST_RATED, LAST_RATED, MILLION, MOST_CLAIMS};
+use crate::rates::{CellRates, RateTable, FIRST_RATED, LAST_RATED, MILLION};
+use crate::study::{duration_group, MOST_CLAIMS};
 use crate::Refusal;
 
 /// K of groups 2 to 5.

@@ -6,10 +6,11 @@ use second::block::{
 use second::calendar::{month_length, ClaimMonths, Date, Day};
 use second::claim::{Claim, CLOSED, DEATH, LIMIT, MAX_OUT, OPEN, RECOVERY, SETTLEMENT};
 use second::months::{listing, Window};
+use second::rates::{RateTable, CELL_LENGTH, DURATIONS};
 use second::report::{decode_rates, report};
 use second::rng::Rng;
 use second::run::{run_file, FileRun};
-use second::study::{duration_group, RateTable, Study, CELL_LENGTH, DURATIONS};
+use second::study::{duration_group, Study};
 use second::valuation::{factor, reserve_factor, valuation_rate, Factor};
 use second::{claim::Duration, Refusal};
 

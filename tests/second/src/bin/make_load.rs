@@ -3,8 +3,8 @@
 use second::block::{write_block, write_window, BLOCK_LENGTH, MOST_IN_BLOCK};
 use second::calendar::{Date, Day};
 use second::claim::{Claim, CLOSED, DEATH, LIMIT, MAX_OUT, OPEN, RECOVERY, SETTLEMENT};
+use second::rates::DURATIONS;
 use second::rng::Rng;
-use second::study::DURATIONS;
 use std::env;
 use std::fs;
 use std::process::exit;

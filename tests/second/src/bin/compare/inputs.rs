@@ -4,8 +4,8 @@ use second::block::{claim_record, CLAIM_LENGTH, ZEROS_AT};
 use second::calendar::{Date, Day};
 use second::claim::{Claim, CLOSED, OPEN};
 use second::generate::{claim_file, damage_claim, sound_claim, sound_rates, sound_window};
+use second::rates::DURATIONS;
 use second::rng::Rng;
-use second::study::DURATIONS;
 
 pub fn date(text: &str) -> Date {
     let mut parts = text.split('-').map(|part| part.parse().unwrap());

@@ -7,8 +7,9 @@ use second::block::{claim_record, seal, write_block, write_window, BLOCK_LENGTH,
 use second::calendar::{Date, Day};
 use second::claim::{Claim, RECOVERY};
 use second::generate::{damage_claim, damage_file, damage_rates, sound_claim, sound_rates, sound_window, wild_date};
+use second::rates::CELL_LENGTH;
 use second::rng::Rng;
-use second::study::{Study, CELL_LENGTH, MOST_CLAIMS, MOST_EXPECTED, MOST_THIRTIETHS, STUDY_LENGTH};
+use second::study::{Study, MOST_CLAIMS, MOST_EXPECTED, MOST_THIRTIETHS, STUDY_LENGTH};
 
 pub const TESTS: &[Test] = &[
     test("opening: sound and wild dates", 39, opening),

@@ -5,8 +5,8 @@ use crate::one_input::{answer, compare_file_study, hex, list, same};
 use crate::{test, Outcome, Test};
 use second::calendar::{Date, Day};
 use second::generate::{claim_file, damage_claim, damage_rates, sound_claim, sound_rates};
+use second::rates::CELL_LENGTH;
 use second::rng::Rng;
-use second::study::CELL_LENGTH;
 
 pub const TESTS: &[Test] = &[
     test("windows: parts total the whole, claims in any order", 15, any_order),
