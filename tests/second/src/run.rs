@@ -1,7 +1,7 @@
 //! Claim file: the run over a whole file.
 
 use crate::block::{read_block, Block, BLOCK_LENGTH};
-use crate::rates::RateTable;
+use crate::rates::{PreparedTable, RateTable, Rates};
 use crate::study::Study;
 use crate::Refusal;
 
@@ -17,19 +17,24 @@ pub struct FileRun {
 
 /// Runs a file's blocks 0, 1, 2, .. in order up to the first refusal. A part block at the end comes last and fails by its length.
 pub fn run_file(file: &[u8], rates: &[u32]) -> FileRun {
-    run_blocks(file.chunks(BLOCK_LENGTH), rates)
+    run_blocks(file.chunks(BLOCK_LENGTH), &RateTable::new(rates))
+}
+
+/// As `run_file`, with a prepared table.
+pub fn run_prepared_file(file: &[u8], table: &[u32]) -> FileRun {
+    run_blocks(file.chunks(BLOCK_LENGTH), &PreparedTable(table))
 }
 
 /// Runs blocks as they come, and asks for none after the first refusal.
-pub fn run_blocks<B: AsRef<[u8]>>(blocks: impl Iterator<Item = B>, rates: &[u32]) -> FileRun {
+pub fn run_blocks<B: AsRef<[u8]>>(blocks: impl Iterator<Item = B>, rates: &impl Rates) -> FileRun {
     let mut study = Study::unopened();
-    match take_blocks(blocks, &RateTable::new(rates), &mut study) {
+    match take_blocks(blocks, rates, &mut study) {
         Ok(()) => FileRun { refused: 0, block: 0, place: 0, study },
         Err((refusal, block, place)) => FileRun { refused: refusal.number(), block, place, study },
     }
 }
 
-fn take_blocks<B: AsRef<[u8]>>(blocks: impl Iterator<Item = B>, rates: &RateTable, study: &mut Study) -> Result<(), (Refusal, u32, u32)> {
+fn take_blocks<B: AsRef<[u8]>>(blocks: impl Iterator<Item = B>, rates: &impl Rates, study: &mut Study) -> Result<(), (Refusal, u32, u32)> {
     let mut due = 0;
     for bytes in blocks {
         match read_block(bytes.as_ref(), due).map_err(|refusal| (refusal, due, 0))? {

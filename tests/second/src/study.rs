@@ -3,7 +3,7 @@
 use crate::calendar::{Date, Day};
 use crate::claim::{Claim, Duration};
 use crate::months::{month_records, Window};
-use crate::rates::RateTable;
+use crate::rates::{Rates, RatesByDuration};
 use crate::Refusal;
 
 pub const MOST_CLAIMS: u32 = 500_000;
@@ -102,7 +102,7 @@ impl Study {
     }
 
     /// Checks 1 to 9; a refused claim leaves the study as it was.
-    pub fn add(&mut self, claim: &Claim, rates: &RateTable) -> Result<(), Refusal> {
+    pub fn add<R: Rates>(&mut self, claim: &Claim, rates: &R) -> Result<(), Refusal> {
         self.window.check()?;
         let claim = claim.check()?;
         let cell = rates.cell(claim.cell.into())?;
@@ -120,8 +120,8 @@ impl Study {
             let (recovery, death) = cell.at(record.duration);
             let thirtieths = record.thirtieths.0 as i64;
             sums.thirtieths += thirtieths;
-            sums.expected_recoveries += thirtieths * recovery as i64;
-            sums.expected_deaths += thirtieths * death as i64;
+            sums.expected_recoveries += thirtieths * recovery;
+            sums.expected_deaths += thirtieths * death;
             if record.category != 0 {
                 sums.closings[record.category as usize - 1] += 1;
             }

@@ -1,7 +1,7 @@
 //! Valuation: z, m, T, the valuation rate and the reserve factor.
 
 use crate::claim::Duration;
-use crate::rates::{CellRates, RateTable, FIRST_RATED, LAST_RATED, MILLION};
+use crate::rates::{CellRates, RateTable, Rates, FIRST_RATED, LAST_RATED, MILLION};
 use crate::study::{duration_group, MOST_CLAIMS};
 use crate::Refusal;
 

@@ -2,6 +2,7 @@
 //! `rates.bin` in the current directory, and prints the table or the refusal line.
 
 use second::block::BLOCK_LENGTH;
+use second::rates::RateTable;
 use second::report::{decode_rates, report, LONGEST_RATES_FILE};
 use second::run::run_blocks;
 use second::valuation::factor;
@@ -10,7 +11,7 @@ use std::io::{stdin, stdout, Read, Write};
 
 fn main() {
     let rates = File::open("rates.bin").map_or(Vec::new(), lent_rates);
-    let run = run_blocks(Blocks(stdin().lock()), &rates);
+    let run = run_blocks(Blocks(stdin().lock()), &RateTable::new(&rates));
     let text = report(&run.numbers(), |group, c, e| factor(group, c, e).expect("a study's group and closing counts"));
     // The program has no exit status of its own: what can't be written is lost.
     let _ = stdout().write_all(text.as_bytes());
