@@ -18,6 +18,17 @@ mod c {
 
         pub fn ltd_file_study(file: *const u8, file_len: usize, rates: *const u32, rates_len: usize, out: *mut i64, out_len: usize) -> u8;
 
+        pub fn ltd_prepare(table: *mut u32, table_len: usize) -> u8;
+
+        pub fn ltd_prepared_file_study(
+            file: *const u8,
+            file_len: usize,
+            table: *const u32,
+            table_len: usize,
+            out: *mut i64,
+            out_len: usize,
+        ) -> u8;
+
         pub fn ltd_factor(group: u8, terminations: u32, expected: i64, out: *mut u64, out_len: usize) -> u8;
 
         pub fn ltd_valuation_rate(rates: *const u32, rates_len: usize, cell: u32, t: u64, duration: u32) -> u64;
@@ -86,6 +97,16 @@ pub fn listing(first: u32, last: u32, claim: &[u8], list: &mut [i32]) -> u64 {
 /// The study of a whole claim file into `out` (46 numbers).
 pub fn file_study(file: &[u8], rates: &[u32], out: &mut [i64]) -> u8 {
     unsafe { c::ltd_file_study(head(file), file.len(), head(rates), rates.len(), head_mut(out), out.len()) }
+}
+
+/// Prepares `table` (958 numbers a cell and one more) in place.
+pub fn prepare(table: &mut [u32]) -> u8 {
+    unsafe { c::ltd_prepare(head_mut(table), table.len()) }
+}
+
+/// The study of a whole claim file with a prepared table into `out` (46 numbers).
+pub fn prepared_file_study(file: &[u8], table: &[u32], out: &mut [i64]) -> u8 {
+    unsafe { c::ltd_prepared_file_study(head(file), file.len(), head(table), table.len(), head_mut(out), out.len()) }
 }
 
 /// z, m and T into `out` (3 numbers).

@@ -1,7 +1,7 @@
 //! The study over whole claim files, sound and damaged, short and long.
 
 use crate::inputs::{closed_claim, date, file_of, flat_rates, sound_claims, sound_study, STUDY_WINDOW};
-use crate::one_input::{compare_file_study, hex, same};
+use crate::one_input::{compare_file_study, compare_prepare, hex, same, FirstRun};
 use crate::{test, Outcome, Test};
 use second::block::{write_block, BLOCK_LENGTH};
 use second::claim::{Claim, LIMIT};
@@ -161,18 +161,28 @@ fn check_order(rng: &mut Rng) -> Outcome {
     Ok(n)
 }
 
+/// The first implementation's numbers alone, of a file too long to show.
+fn first_run(run: FirstRun, file: &[u8], table: &[u32]) -> [i64; 46] {
+    let mut out = [0; 46];
+    run(file, table, &mut out);
+    out
+}
+
 fn full(_: &mut Rng) -> Outcome {
     let window = (date("2011-01-01"), date("2011-03-31"));
     let rates = flat_rates(1_000_000, 0);
     let claims = vec![closed_claim("2011-02-10", "2011-03-10", LIMIT); 500_000];
     let mut file = claim_file(window, &claims, None);
+    let table = compare_prepare(&[&rates[..], &[0]].concat())?.1;
     let check = |file: &[u8], paper: [i64; 4]| {
-        let mut out = [0; 46];
-        ffi::file_study(file, &rates, &mut out);
-        let figures = [out[0], out[1], out[2], out[5]];
-        same((figures, out), (paper, run_file(file, &rates).numbers()), || {
-            format!("window 2011-01-01 to 2011-03-31, {} blocks of one claim: {}", file.len() / BLOCK_LENGTH, claims[0])
-        })
+        let second = run_file(file, &rates).numbers();
+        for out in [first_run(ffi::file_study, file, &rates), first_run(ffi::prepared_file_study, file, &table)] {
+            let figures = [out[0], out[1], out[2], out[5]];
+            same((figures, out), (paper, second), || {
+                format!("window 2011-01-01 to 2011-03-31, {} blocks of one claim: {}", file.len() / BLOCK_LENGTH, claims[0])
+            })?;
+        }
+        Ok::<(), String>(())
     };
     check(&file, [0, 0, 0, 500_000])?;
     // Three more in a block of their own: refused at the first.
@@ -192,8 +202,8 @@ fn all_block_numbers(_: &mut Rng) -> Outcome {
         file.extend(block);
     }
     let check = |file: &[u8], paper: [i64; 3]| {
-        let mut out = [0; 46];
-        ffi::file_study(file, &[], &mut out);
+        let out = first_run(ffi::file_study, file, &[]);
+        same(first_run(ffi::prepared_file_study, file, &[]), out, || "with a prepared table as first".into())?;
         same(([out[0], out[1], out[2]], out), (paper, run_file(file, &[]).numbers()), || {
             format!("{} blocks and {} bytes without claims", file.len() / BLOCK_LENGTH, file.len() % BLOCK_LENGTH)
         })

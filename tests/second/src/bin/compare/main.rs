@@ -10,6 +10,7 @@ mod inputs;
 mod listing;
 mod one_input;
 mod open_and_add;
+mod prepared;
 mod short_lists;
 mod valuation;
 mod windows;
@@ -38,6 +39,7 @@ const SUBJECTS: &[&[Test]] = &[
     figures::TESTS,
     listing::TESTS,
     file_runs::TESTS,
+    prepared::TESTS,
     windows::TESTS,
     valuation::TESTS,
     blocks::TESTS,

@@ -6,8 +6,8 @@ use second::calendar::Date;
 use second::claim::Claim;
 use second::ffi;
 use second::months::listing;
-use second::rates::RateTable;
-use second::run::run_file;
+use second::rates::{prepare, RateTable};
+use second::run::{run_file, run_prepared_file, FileRun};
 use second::study::{Study, STUDY_LENGTH};
 use second::valuation::{factor, reserve_factor, valuation_rate, Factor};
 use second::Refusal;
@@ -160,20 +160,45 @@ fn described(record: &[u8]) -> String {
 /// Long enough for every listing.
 pub const LONG_LIST: usize = 6 * 1_801;
 
-/// Compares the runs over a file and hands back the first one's numbers.
+/// Compares the runs over a file, with the rates and with their prepared table, and hands back the first one's numbers.
 pub fn compare_file_study(file: &[u8], rates: &[u32]) -> Result<[i64; 46], String> {
+    let numbers = compare_plain_run(file, rates)?;
+    let (_, table) = compare_prepare(&[rates, &[0]].concat())?;
+    let prepared = compare_prepared_run(file, &table)?;
+    same(prepared, numbers, || format!("prepared as first and plain as second, file\n{}rates {}", hex(file), list(rates)))?;
+    Ok(numbers)
+}
+
+pub fn compare_plain_run(file: &[u8], rates: &[u32]) -> Result<[i64; 46], String> {
+    compare_runs(file, rates, ffi::file_study, run_file)
+}
+
+/// With a prepared table, or any other list.
+pub fn compare_prepared_run(file: &[u8], table: &[u32]) -> Result<[i64; 46], String> {
+    compare_runs(file, table, ffi::prepared_file_study, run_prepared_file)
+}
+
+/// The study of a file with rates or a prepared table.
+pub type FirstRun = fn(&[u8], &[u32], &mut [i64]) -> u8;
+
+fn compare_runs(file: &[u8], table: &[u32], first: FirstRun, second: fn(&[u8], &[u32]) -> FileRun) -> Result<[i64; 46], String> {
     let (_, numbers) = compare_lent(
         &pattern(48),
-        |out| ffi::file_study(file, rates, out),
+        |out| first(file, table, out),
         |out| {
-            let run = run_file(file, rates);
+            let run = second(file, table);
             out[..46].copy_from_slice(&run.numbers());
             run.refused
         },
         ONLY_WRONG_FORM,
-        || format!("file\n{}rates {}", hex(file), list(rates)),
+        || format!("file\n{}table {}", hex(file), list(table)),
     )?;
     Ok(numbers[..46].try_into().unwrap())
+}
+
+/// Prepares a table with both; the answer and the first one's table.
+pub fn compare_prepare(table: &[u32]) -> Result<(u8, Vec<u32>), String> {
+    compare_lent(table, ffi::prepare, |table| answer(&prepare(table)), EACH, || format!("preparing {}", list(table)))
 }
 
 /// Opens with both into a list of `length` numbers; the answer and the first one's list.

@@ -2,7 +2,7 @@
 //! looked at before anything else, so 255 comes before any refusal of the input.
 
 use crate::inputs::{any_records, closed_claim, flat_rates, STUDY_WINDOW};
-use crate::one_input::{hex, same, Answer, LONG_LIST, WRONG_FORM};
+use crate::one_input::{hex, same, Answer, FirstRun, LONG_LIST, WRONG_FORM};
 use crate::{test, Outcome, Test};
 use second::block::{claim_record, write_records, BLOCK_LENGTH, CLAIM_LENGTH, RECORDS_LENGTH};
 use second::calendar::Date;
@@ -50,15 +50,24 @@ fn too_short<T: PartialEq + Copy + Debug, A: Answer>(
     untouched(call, WRONG_FORM, length, blank, run)
 }
 
+/// The study of a file with rates, and with their prepared table.
+fn runs(rates: &[u32]) -> [(FirstRun, Vec<u32>); 2] {
+    let mut table = [rates, &[0]].concat();
+    ffi::prepare(&mut table);
+    [(ffi::file_study, rates.to_vec()), (ffi::prepared_file_study, table)]
+}
+
 fn too_short_by_any(rng: &mut Rng) -> Outcome {
     let mut n = 0;
     let rates = flat_rates(10_000, 5_000);
     let claim = closed_claim("2009-06-11", "2012-04-29", RECOVERY);
     let file = claim_file(STUDY_WINDOW, &[claim], None);
     for length in 0..46 {
-        too_short("study", length, -7, |out| ffi::file_study(&file, &rates, out))?;
-        too_short("study, no file", length, -7, |out| ffi::file_study(&[], &rates, out))?;
-        n += 2;
+        for (run, table) in runs(&rates) {
+            too_short("study", length, -7, |out| run(&file, &table, out))?;
+            too_short("study, no file", length, -7, |out| run(&[], &table, out))?;
+            n += 2;
+        }
     }
     for length in 0..3 {
         too_short("factor", length, 7, |out| ffi::factor(2, 10, 1_000_000, out))?;
@@ -115,9 +124,12 @@ fn too_short_by_one(rng: &mut Rng) -> Outcome {
         let rates = sound_rates(rng, 1);
         let file = claim_file((first, last), &[Claim { cell: 0, ..claim }], None);
         let input = || format!("file\n{}", hex(&file));
-        too_short("study, out", 45, -7, |out| ffi::file_study(&file, &rates, out))?;
-        same(ffi::file_study(&file, &rates[1..], &mut [0; 46]), RATE_TABLE, input)?;
-        same(ffi::file_study(&file[..file.len() - 1], &rates, &mut [0; 46]), BLOCK, input)?;
+        for (run, table) in runs(&rates) {
+            too_short("study, out", 45, -7, |out| run(&file, &table, out))?;
+            same(run(&file, &table[1..], &mut [0; 46]), RATE_TABLE, input)?;
+            same(run(&file[..file.len() - 1], &table, &mut [0; 46]), BLOCK, input)?;
+            n += 3;
+        }
 
         let group = rng.range(1, 5) as u8;
         let e = rng.range(-5, 200_000_000_000);
@@ -145,7 +157,7 @@ fn too_short_by_one(rng: &mut Rng) -> Outcome {
         untouched("writing, block", BLOCK, BLOCK_LENGTH - 1, 7, |block| write(&records, block))?;
         let run = |block: &mut [u8]| ffi::write_window(first.to_number(), last.to_number(), block);
         untouched("writing a window, block", BLOCK, BLOCK_LENGTH - 1, 7, run)?;
-        n += 15;
+        n += 12;
     }
     Ok(n)
 }
@@ -158,8 +170,12 @@ fn too_short_and_refused(rng: &mut Rng) -> Outcome {
         let records = any_records(rng, 3);
         let t = [1_000_000; 5];
         let file = claim_file((STUDY_WINDOW.1, STUDY_WINDOW.0), &[], None);
-        too_short("study, a bad window", 45, -7, |out| ffi::file_study(&file, &rates, out))?;
-        too_short("study, a part block", 45, -7, |out| ffi::file_study(&file[..511], &rates, out))?;
+        for (run, table) in runs(&rates) {
+            too_short("study, a bad window", 45, -7, |out| run(&file, &table, out))?;
+            too_short("study, a part block", 45, -7, |out| run(&file[..511], &table, out))?;
+            too_short("study, no table", 45, -7, |out| run(&file, &[], out))?;
+            n += 3;
+        }
         too_short("factor, group", 2, 7, |out| ffi::factor(rng.pick(&[0, 6, 255]), 10, 1_000_000, out))?;
         too_short("factor, C", 2, 7, |out| ffi::factor(2, 500_001, 1_000_000, out))?;
         let table = &rates[..];
@@ -180,7 +196,7 @@ fn too_short_and_refused(rng: &mut Rng) -> Outcome {
         let number = rng.pick(&[0, 65_536, u32::MAX]);
         untouched("writing, number", BLOCK, BLOCK_LENGTH, 7, |block| ffi::write_block(number, &records[1..], block))?;
         untouched("writing, block", BLOCK, BLOCK_LENGTH - 1, 7, |block| ffi::write_block(1, &records[1..], block))?;
-        n += 18;
+        n += 16;
     }
     Ok(n)
 }
