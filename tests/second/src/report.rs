@@ -17,6 +17,11 @@ pub fn decode_rates(bytes: &[u8]) -> Vec<u32> {
     bytes.chunks_exact(4).map(|b| u32::from_le_bytes([b[0], b[1], b[2], b[3]])).collect()
 }
 
+/// The bytes of `rates.bin` for these rates.
+pub fn encode_rates(rates: &[u32]) -> Vec<u8> {
+    rates.iter().flat_map(|rate| rate.to_le_bytes()).collect()
+}
+
 /// What the program prints of a run's 46 numbers; `factor` gives z, m and T of a group, C and E.
 pub fn report(numbers: &[i64; 46], factor: impl Fn(u8, u32, i64) -> Factor) -> String {
     let [refused, block, place] = [numbers[0], numbers[1], numbers[2]];

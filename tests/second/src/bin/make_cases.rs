@@ -6,6 +6,7 @@ use second::calendar::Date;
 use second::claim::{Claim, CLOSED, OPEN, RECOVERY, SETTLEMENT};
 use second::generate::{claim_file, damage_claim, damage_file, damage_rates, sound_claim, sound_rates, sound_window};
 use second::rates::{CELL_LENGTH, DURATIONS};
+use second::report::encode_rates;
 use second::rng::Rng;
 use std::env;
 use std::fs;
@@ -69,10 +70,6 @@ fn write_rates(dir: &Path, name: &str, rates: &[u8]) -> Result<()> {
     fs::write(dir.join(name).join("rates.bin"), rates)
 }
 
-fn bytes(rates: &[u32]) -> Vec<u8> {
-    rates.iter().flat_map(|rate| rate.to_le_bytes()).collect()
-}
-
 fn claim_files() -> Vec<(&'static str, Vec<u8>)> {
     let of = |claims: &[Claim]| claim_file(WINDOW, claims, None);
     let twenty = of(&[EXAMPLE; 20]);
@@ -126,12 +123,12 @@ fn empty_blocks(count: u32) -> Vec<u8> {
 
 fn rates_files() -> Vec<(&'static str, Vec<u8>)> {
     let cell = |recovery: u32, death: u32| [[recovery; DURATIONS], [death; DURATIONS]].concat();
-    let flat = bytes(&cell(10_000, 5_000));
+    let flat = encode_rates(&cell(10_000, 5_000));
     let cells_16 = flat.repeat(16);
     vec![
         ("flat", flat.clone()),
-        ("highest", bytes(&cell(500_000, 500_000))),
-        ("too_high", bytes(&cell(500_000, 500_001))),
+        ("highest", encode_rates(&cell(500_000, 500_000))),
+        ("too_high", encode_rates(&cell(500_000, 500_001))),
         ("cells_16", cells_16.clone()),
         ("cells_17", flat.repeat(17)),
         ("cells_16_number_more", [&cells_16[..], &[0; 4]].concat()),
@@ -163,5 +160,5 @@ fn random(rng: &mut Rng, i: u64) -> (Vec<u8>, Vec<u8>) {
             damage_file(rng, &mut file);
         }
     }
-    (file, bytes(&rates))
+    (file, encode_rates(&rates))
 }
