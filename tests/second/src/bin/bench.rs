@@ -1,48 +1,184 @@
-//! Runs both implementations over a claim file in memory: bench CLAIMS RATES. Prints the best of five runs of each, turn by turn, with
-//! claims and months of exposure per second, and the ratio of the second's time to the first's.
+//! Measures the engine beside the second implementation: bench DIR PROGRAM SECOND_PROGRAM [CLAIMS]. What is compared takes turns over one
+//! claim file, and the best of five turns counts. The load stays in DIR as claims.bin and rates.bin.
+//!
+//! Prints two tables: the speed of the calls in memory, of the programs, and of `cat` as the floor; and the shape of the cost.
 
+use second::calendar::Date;
 use second::ffi;
-use second::report::decode_rates;
+use second::generate::claim_file;
+use second::load::{claims, rates, NINE_YEARS};
+use second::report::{encode_rates, report};
 use second::run::run_file;
+use second::valuation::factor;
 use std::env;
-use std::fs;
+use std::fs::{self, File};
 use std::hint::black_box;
-use std::process::exit;
+use std::path::Path;
+use std::process::{exit, Command, Stdio};
 use std::time::Instant;
+
+const TURNS: usize = 5;
+const SEED: u64 = 1;
+const CELLS: usize = 16;
+const ONE_YEAR: (Date, Date) = (Date::new(2013, 1, 1), Date::new(2013, 12, 31));
+const CALENDAR: (Date, Date) = (Date::new(1950, 1, 1), Date::new(2099, 12, 31));
+
+/// The seconds of a run, or what is wrong with it.
+type Timed = Result<f64, String>;
 
 fn main() {
     let arguments: Vec<String> = env::args().skip(1).collect();
-    let [claims, rates] = arguments.as_slice() else {
-        eprintln!("usage: bench CLAIMS RATES");
+    let count = match arguments.get(3) {
+        None => Some(500_000),
+        Some(text) => text.parse().ok().filter(|count| (8..=500_000).contains(count)),
+    };
+    let (Some(count), 3..=4) = (count, arguments.len()) else {
+        eprintln!("usage: bench DIR PROGRAM SECOND_PROGRAM [CLAIMS, 8 to 500,000]");
         exit(2);
     };
-    let file = read(claims);
-    let rates = decode_rates(&read(rates));
-    let mut sums = [0i64; 46];
-    let mut best = [f64::INFINITY; 2];
-    for _ in 0..5 {
-        let begin = Instant::now();
-        let refused = ffi::file_study(black_box(&file), black_box(&rates), &mut sums);
-        best[0] = best[0].min(begin.elapsed().as_secs_f64());
-        let begin = Instant::now();
-        let run = black_box(run_file(black_box(&file), black_box(&rates)));
-        best[1] = best[1].min(begin.elapsed().as_secs_f64());
-        if refused != 0 || run.refused != 0 {
-            eprintln!("refused {} and {}", refused, run.refused);
-            exit(1);
-        }
+    let measured = speed(Path::new(&arguments[0]), &arguments[1], &arguments[2], count).and_then(|()| shape(count));
+    if let Err(wrong) = measured {
+        eprintln!("bench: {wrong}");
+        exit(1);
     }
-    let taken = sums[5] as f64;
-    let months = (0..5).map(|group| sums[6 + 8 * group]).sum::<i64>() as f64 / 30.0;
-    for (name, seconds) in ["engine", "second"].iter().zip(best) {
-        println!("{name}: {seconds:.3} s, {:.0} claims/s, {:.0} months/s", taken / seconds, months / seconds);
-    }
-    println!("second / engine: {:.2}", best[1] / best[0]);
 }
 
-fn read(path: &str) -> Vec<u8> {
-    fs::read(path).unwrap_or_else(|error| {
-        eprintln!("{path}: {error}");
-        exit(1);
-    })
+/// A claim file and its rates, with the numbers that every run over it must give.
+struct Load {
+    file: Vec<u8>,
+    rates: Vec<u32>,
+    numbers: [i64; 46],
+}
+
+impl Load {
+    fn new(count: usize, cells: usize, window: (Date, Date)) -> Load {
+        let (file, rates) = (claim_file(window, &claims(SEED, count, cells), None), rates(SEED, cells));
+        let numbers = run_file(&file, &rates).numbers();
+        Load { file, rates, numbers }
+    }
+
+    fn months(&self) -> f64 {
+        self.numbers[6..].chunks(8).map(|group| group[0]).sum::<i64>() as f64 / 30.0
+    }
+
+    /// The engine's run, preparing included.
+    fn engine(&self) -> Timed {
+        let mut table = [&self.rates[..], &[0]].concat();
+        let mut out = [0; 46];
+        let begin = Instant::now();
+        ffi::prepare(black_box(&mut table));
+        ffi::prepared_file_study(black_box(&self.file), &table, &mut out);
+        let seconds = begin.elapsed().as_secs_f64();
+        self.checked("the engine", out, seconds)
+    }
+
+    fn second(&self) -> Timed {
+        let begin = Instant::now();
+        let run = black_box(run_file(black_box(&self.file), black_box(&self.rates)));
+        let seconds = begin.elapsed().as_secs_f64();
+        self.checked("the second implementation", run.numbers(), seconds)
+    }
+
+    fn checked(&self, what: &str, numbers: [i64; 46], seconds: f64) -> Timed {
+        if numbers == self.numbers && numbers[0] == 0 {
+            Ok(seconds)
+        } else {
+            Err(format!("{what} gave {numbers:?} for {:?}", self.numbers))
+        }
+    }
+}
+
+/// The wall time of a process that reads DIR/claims.bin and must print `wanted` into `output`.
+fn process(program: &str, dir: &Path, output: Stdio, wanted: &str) -> Timed {
+    let wrong = |error| format!("{program}: {error}");
+    let input = File::open(dir.join("claims.bin")).map_err(wrong)?;
+    let mut command = Command::new(program);
+    command.current_dir(dir).stdin(input).stdout(output);
+    let begin = Instant::now();
+    let printed = command.output().map_err(wrong)?.stdout;
+    let seconds = begin.elapsed().as_secs_f64();
+    if printed == wanted.as_bytes() {
+        Ok(seconds)
+    } else {
+        Err(format!("{program} printed\n{}for\n{wanted}", String::from_utf8_lossy(&printed)))
+    }
+}
+
+/// The best time of each run; they take turns.
+fn best<const N: usize>(runs: [&dyn Fn() -> Timed; N]) -> Result<[f64; N], String> {
+    let mut best = [f64::INFINITY; N];
+    for _ in 0..TURNS {
+        for (best, run) in best.iter_mut().zip(runs) {
+            *best = best.min(run()?);
+        }
+    }
+    Ok(best)
+}
+
+fn speed(dir: &Path, program: &str, second_program: &str, count: usize) -> Result<(), String> {
+    let load = Load::new(count, CELLS, NINE_YEARS);
+    for (name, bytes) in [("claims.bin", &load.file), ("rates.bin", &encode_rates(&load.rates))] {
+        fs::write(dir.join(name), bytes).map_err(|error| format!("{name}: {error}"))?;
+    }
+    let table = report(&load.numbers, |group, c, e| factor(group, c, e).expect("a study's group and closing counts"));
+    let [engine, second, first_process, second_process, cat] = best([
+        &|| load.engine(),
+        &|| load.second(),
+        &|| process(program, dir, Stdio::piped(), &table),
+        &|| process(second_program, dir, Stdio::piped(), &table),
+        &|| process("cat", dir, Stdio::null(), ""),
+    ])?;
+
+    println!("{} claims, {CELLS} cells, nine years, best of {TURNS} turns:\n", grouped(count as f64));
+    println!("| run | time | claims a second | months a second | ratio |");
+    println!("|---|---|---|---|---|");
+    let row = |run: &str, seconds: f64, other: f64, against: &str| {
+        let (claims, months) = (grouped(count as f64 / seconds), grouped(load.months() / seconds));
+        println!("| {run} | {:.1} ms | {claims} | {months} | {:.3} of {against} |", seconds * 1e3, seconds / other);
+    };
+    row("the engine, in memory, preparing included", engine, second, "the second implementation's time");
+    row("the second implementation, in memory", second, engine, "the engine's");
+    row("the program", first_process, second_process, "the second program's time");
+    row("the second implementation's program", second_process, first_process, "the program's");
+    row("`cat` of the file", cat, first_process, "the program's");
+    Ok(())
+}
+
+/// How the time in memory grows with the window, the number of claims and the number of cells.
+fn shape(count: usize) -> Result<(), String> {
+    println!("\n| claims | cells | window | months | engine | a claim | a month | second | a claim | a month | engine / second |");
+    println!("|---|---|---|---|---|---|---|---|---|---|---|");
+    let shapes = [
+        (count, CELLS, "one year", ONE_YEAR),
+        (count, CELLS, "nine years", NINE_YEARS),
+        (count, CELLS, "150 years", CALENDAR),
+        (count / 8, CELLS, "nine years", NINE_YEARS),
+        (count / 4, CELLS, "nine years", NINE_YEARS),
+        (count / 2, CELLS, "nine years", NINE_YEARS),
+        (count, 1, "nine years", NINE_YEARS),
+    ];
+    for (count, cells, years, window) in shapes {
+        let load = Load::new(count, cells, window);
+        let [engine, second] = best([&|| load.engine(), &|| load.second()])?;
+        let cost = |seconds: f64| {
+            let (claim, month) = (seconds * 1e9 / count as f64, seconds * 1e9 / load.months());
+            format!("{:.1} ms | {claim:.1} ns | {month:.2} ns", seconds * 1e3)
+        };
+        let (claims, months) = (grouped(count as f64), grouped(load.months()));
+        println!("| {claims} | {cells} | {years} | {months} | {} | {} | {:.3} |", cost(engine), cost(second), engine / second);
+    }
+    Ok(())
+}
+
+/// A whole number with its thousands apart.
+fn grouped(number: f64) -> String {
+    let digits = format!("{number:.0}");
+    let mut text = String::new();
+    for (i, digit) in digits.chars().enumerate() {
+        if i > 0 && (digits.len() - i) % 3 == 0 {
+            text.push(',');
+        }
+        text.push(digit);
+    }
+    text
 }
