@@ -1,7 +1,7 @@
 //! Blocks: read and written, with every bit damaged, and refused.
 
 use crate::inputs::{any_claims, any_records, spoil_record, STUDY_WINDOW};
-use crate::one_input::{compare_read_block, compare_read_window, compare_write_block, compare_write_window, same, Answer};
+use crate::one_input::{compare_read_block, compare_read_window, compare_write_block, compare_write_window, same, Answer, BLOCK};
 use crate::{test, Outcome, Test};
 use second::block::{seal, write_block, write_window, BLOCK_LENGTH, CHECK_AT, CLAIM_LENGTH, MOST_IN_BLOCK, RECORDS_LENGTH, ZEROS_AT};
 use second::generate::{damage_file, wild_date};
@@ -16,9 +16,6 @@ pub const TESTS: &[Test] = &[
     test("blocks: every byte of a record that must be zero, every part of a record", 48, wrong_records),
     test("blocks: windows", 34, windows),
 ];
-
-/// The refusal of reading and writing.
-const BLOCK: u8 = 11;
 
 fn write_read_write(rng: &mut Rng) -> Outcome {
     let n = 60_000;

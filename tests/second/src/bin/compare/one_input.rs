@@ -15,6 +15,13 @@ use std::fmt::{Debug, Write as _};
 
 /// What an answer of 64 bits has more than the number refused.
 pub const REFUSED: u64 = 1 << 32;
+/// Numbers of document 01's table.
+pub const RATE_TABLE: u8 = 6;
+pub const CELL: u8 = 7;
+pub const RATE: u8 = 8;
+pub const FULL: u8 = 9;
+pub const SHORT_LIST: u8 = 10;
+pub const BLOCK: u8 = 11;
 /// A lent list has not the length or form asked for.
 pub const WRONG_FORM: u8 = 255;
 

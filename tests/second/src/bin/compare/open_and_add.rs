@@ -1,7 +1,7 @@
 //! A study as a list: opened, added to claim by claim, and with any numbers in it; and the window of a claim file's block 0.
 
 use crate::inputs::{closed_claim, flat_rates, sound_claims, spoil_record, STUDY_WINDOW};
-use crate::one_input::{compare_add, compare_open, compare_read_window, same, WRONG_FORM};
+use crate::one_input::{compare_add, compare_open, compare_read_window, same, BLOCK, CELL, FULL, RATE_TABLE, WRONG_FORM};
 use crate::{test, Outcome, Test};
 use second::block::{claim_record, seal, write_block, write_window, BLOCK_LENGTH, CLAIM_LENGTH, ZEROS_AT};
 use second::calendar::{Date, Day};
@@ -23,8 +23,6 @@ pub const TESTS: &[Test] = &[
     test("windows of block 0: sound and damaged", 47, read_windows),
 ];
 
-const FULL: u8 = 9;
-const BLOCK: u8 = 11;
 /// The first number past 32 bits.
 const PAST: i64 = 1 << 32;
 
@@ -333,9 +331,9 @@ fn wrong_form(rng: &mut Rng) -> Outcome {
         }
         let mut cell = record;
         cell[ZEROS_AT - 1] = rng.range(1, 255) as u8;
-        must(&mut opened.to_vec(), &cell, &rates, 7)?;
-        must(&mut opened.to_vec(), &record, &rates[1..], 6)?;
-        must(&mut opened.to_vec(), &record, &[], 6)?;
+        must(&mut opened.to_vec(), &cell, &rates, CELL)?;
+        must(&mut opened.to_vec(), &record, &rates[1..], RATE_TABLE)?;
+        must(&mut opened.to_vec(), &record, &[], RATE_TABLE)?;
     }
     Ok(n)
 }

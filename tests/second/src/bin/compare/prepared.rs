@@ -2,7 +2,7 @@
 //! that were never prepared.
 
 use crate::inputs::{any_length, flat_rates, sound_claims};
-use crate::one_input::{compare_file_study, compare_plain_run, compare_prepare, compare_prepared_run, same};
+use crate::one_input::{compare_file_study, compare_plain_run, compare_prepare, compare_prepared_run, same, CELL, FULL, RATE, RATE_TABLE};
 use crate::{test, Outcome, Test};
 use second::calendar::Date;
 use second::claim::Claim;
@@ -20,10 +20,6 @@ pub const TESTS: &[Test] = &[
     test("prepared: lists never prepared", 58, never_prepared),
     test("prepared: full by the sums of a list never prepared", 59, full_by_sums),
 ];
-
-const RATE_TABLE: u8 = 6;
-const RATE: u8 = 8;
-const FULL: u8 = 9;
 
 /// The numbers of cells and a last one.
 fn table_of(cells: &[u32], last: u32) -> Vec<u32> {
@@ -189,7 +185,7 @@ fn any_cells(rng: &mut Rng) -> Outcome {
             n += 1;
         }
     }
-    had_often(&answers, &[0, 7, 8])?;
+    had_often(&answers, &[0, CELL, RATE])?;
     Ok(n)
 }
 
@@ -266,7 +262,7 @@ fn never_prepared(rng: &mut Rng) -> Outcome {
             n += 1;
         }
     }
-    had_often(&answers, &[0, RATE_TABLE, 7, RATE])?;
+    had_often(&answers, &[0, RATE_TABLE, CELL, RATE])?;
     Ok(n)
 }
 

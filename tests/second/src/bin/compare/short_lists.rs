@@ -2,7 +2,7 @@
 //! looked at before anything else, so 255 comes before any refusal of the input.
 
 use crate::inputs::{any_records, closed_claim, flat_rates, STUDY_WINDOW};
-use crate::one_input::{hex, same, Answer, FirstRun, LONG_LIST, WRONG_FORM};
+use crate::one_input::{hex, same, Answer, FirstRun, BLOCK, LONG_LIST, RATE_TABLE, SHORT_LIST, WRONG_FORM};
 use crate::{test, Outcome, Test};
 use second::block::{claim_record, write_records, BLOCK_LENGTH, CLAIM_LENGTH, RECORDS_LENGTH};
 use second::calendar::Date;
@@ -19,10 +19,6 @@ pub const TESTS: &[Test] = &[
     test("lent lists too short, the input refused as well", 37, too_short_and_refused),
     test("lent lists too long", 38, too_long),
 ];
-
-const RATE_TABLE: u8 = 6;
-const SHORT_LIST: u8 = 10;
-const BLOCK: u8 = 11;
 
 /// The call must refuse with `wanted` and leave the list of `length` numbers that it is lent for writing as it was.
 fn untouched<T: PartialEq + Copy + Debug, A: Answer>(

@@ -1,7 +1,7 @@
 //! Valuation: z, m and T, the valuation rate and the reserve factor.
 
 use crate::inputs::{any_length, flat_rates};
-use crate::one_input::{compare_factor, compare_reserve_factor, compare_valuation_rate, first_factor, same, Answer};
+use crate::one_input::{compare_factor, compare_reserve_factor, compare_valuation_rate, first_factor, same, Answer, CELL};
 use crate::{test, Outcome, Test};
 use second::generate::{damage_rates, sound_rates};
 use second::rng::Rng;
@@ -21,8 +21,6 @@ pub const TESTS: &[Test] = &[
     test("reserve factor: refused", 28, reserve_refused),
     test("reserve factor: cells not in the table", 51, reserve_missing_cells),
 ];
-
-const CELL: u8 = 7;
 
 fn terminations(rng: &mut Rng) -> u32 {
     match rng.below(4) {
