@@ -3,6 +3,7 @@
 pub mod Claim
 pub mod ClaimMonths
 pub mod Exposure
+pub mod Walk
 pub mod Span
 pub mod Windows
 pub mod Listing
