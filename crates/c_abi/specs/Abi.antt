@@ -1,10 +1,9 @@
 -- What each call for C and Rust answers, and what each lent list holds at exit, on every input, in terms of the layers below.
-use Prim.Native.Nat.{ℕ, zero, suc, _+_, _*_, _/_, _%_}
-use mathlib.Core.List.{List, [], _∷_, _++_}
+use Prim.Native.Nat.{ℕ, _+_, _*_, _/_, _%_}
+use mathlib.Core.List.{List, [], _∷_}
 use lib.ListN.{length}
 use lib.Seq.{sets}
-use lib.Dec.{ltb, eqb}
-use lib.IntN.{ℤ, pos}
+use lib.Dec.{eqb}
 use Rattle.calendar.specs.declared.Date.{Date}
 use Rattle.basics.specs.Pick.{pick}
 use Rattle.valuation.specs.declared.MaybeRate.{MaybeRate}
@@ -14,11 +13,7 @@ use Rattle.valuation.specs.declared.MaybeFactor.the-variants as factored
 use lib.Ieee.{Float}
 use Rattle.valuation.specs.declared.Reserve.{Reserve}
 use Rattle.valuation.specs.declared.Reserve.the-variants as reserved
-use Rattle.study.specs.declared.Study.{Study}
-use Rattle.study.specs.declared.Sums.{Sums}
-use Rattle.study.specs.declared.Group.{Group}
-use Rattle.study.specs.Sums.{groupFigures}
-use Rattle.claim_file.specs.declared.FileRun.{FileRun}
+use Rattle.study_list.specs.Lent.{answered, stored}
 
 -- a refusal where the answer is a number: 2^32 + the number refused
 abbrev pub refusedNumber : ℕ → ℕ
@@ -42,13 +37,6 @@ unfoldable pub factorStored : List ℕ → MaybeFactor → List ℕ
 factorStored old (factored.Known f) = sets old 0 (f .z ∷ f .m ∷ f .t ∷ [])
 factorStored old (factored.Refused n) = old
 
--- a lent list shorter than asked for is answered 255, and keeps what it holds
-abbrev pub answered : {A : Type 0} → ℕ → List A → ℕ → ℕ
-answered asked old number = pick (ltb (length old) asked) 255 number
-
-abbrev pub stored : {A : Type 0} → ℕ → List A → List A → List A
-stored asked old new = pick (ltb (length old) asked) old new
-
 -- ltd_reserve_factor: the factor, or the list as it was
 unfoldable pub reserveNumber : Reserve → ℕ
 reserveNumber (reserved.Factor f) = 0
@@ -64,25 +52,6 @@ reserveAnswered t old r = pick (eqb (length t) 5) (answered 1 old (reserveNumber
 
 unfoldable pub reserveAfter : List ℕ → List Float → Reserve → List Float
 reserveAfter t old r = pick (eqb (length t) 5) (stored 1 old (reserveStored old r)) old
-
--- a study as a list: the eight numbers of a group, those of the first n groups, and those of the whole study, 43
-unfoldable pub countNumbers : List ℕ → List ℤ
-countNumbers [] = []
-countNumbers (x ∷ xs) = pos x ∷ countNumbers xs
-
-unfoldable pub groupNumbers : Group → List ℤ
-groupNumbers g = g .thirtieths ∷ (countNumbers (g .closings) ++ (g .recoveries ∷ g .deaths ∷ []))
-
-unfoldable pub groupsNumbers : Sums → ℕ → List ℤ
-groupsNumbers s zero = []
-groupsNumbers s (suc n) = groupsNumbers s n ++ groupNumbers (groupFigures s (n + 1))
-
-unfoldable pub studyNumbers : Study → List ℤ
-studyNumbers s = pos (s .window .first .0) ∷ pos (s .window .last .0) ∷ pos (s .taken) ∷ groupsNumbers (s .sums) 5
-
--- ltd_file_study and ltd_prepared_file_study: number, block and place of a run, and its study
-unfoldable pub runNumbers : FileRun → List ℤ
-runNumbers r = pos (r .refused) ∷ pos (r .block) ∷ pos (r .place) ∷ studyNumbers (r .study)
 
 -- a date as one number
 unfoldable pub dateNumber : Date → ℕ

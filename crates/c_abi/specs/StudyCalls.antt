@@ -14,7 +14,7 @@ use Rattle.study.specs.Study.{added}
 use Rattle.claim_file.specs.declared.MaybeClaim.{MaybeClaim}
 use Rattle.claim_file.specs.declared.MaybeClaim.the-variants.{Found, NoRecord}
 use Rattle.claim_file.specs.BlockAnswers.{recordIn}
-use Rattle.c_abi.specs.Abi.{studyNumbers}
+use Rattle.study_list.specs.StudyList.{studyNumbers}
 
 -- a number of 32 bits: 0 to 2³² − 1
 unfoldable pub isWord : ℤ → Bool

@@ -1,7 +1,5 @@
-// The calls for C and Rust, as include/ltd_study.h declares them.
+// The calls for C and Rust that include/ltd_study.h declares, but for those that run whole files.
 mod block;
 mod factors;
-mod file;
 mod listing;
 mod study_calls;
-mod study_list;

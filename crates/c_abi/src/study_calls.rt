@@ -8,15 +8,17 @@ ghost use lib.ListN.{length, getD};
 ghost use lib.Seq.{sets};
 ghost use Rattle.basics.specs.Tables.{table};
 ghost use Rattle.study.specs.Study.{opened};
-ghost use Rattle.c_abi.specs.Abi.{dateIn, studyNumbers, answered, stored};
+ghost use Rattle.study_list.specs.Lent.{answered, stored};
+ghost use Rattle.study_list.specs.StudyList.{studyNumbers};
+ghost use Rattle.c_abi.specs.Abi.{dateIn};
 ghost use Rattle.c_abi.specs.StudyCalls.{isWord, closingAt, countsAreWords, studyForm, studyIn, addAnswer, addAfter};
 use crate::listing::date_in;
-use crate::study_list::put_study;
 use calendar::Day;
 use claim_file::MaybeClaim;
 use claim_months::Window;
 use study::Study;
 use study::Sums;
+use study_list::put_study;
 
 // Whether a number is one of 32 bits.
 fn is_word(x: i64) -> bool

@@ -8,9 +8,10 @@ use borrow.Author.Needs.{needs}
 use Rattle.claim_file.specs.declared.WindowDates.{WindowDates}
 use Rattle.claim_file.specs.declared.MaybeDates.{MaybeDates}
 use Rattle.claim_file.specs.declared.MaybeDates.the-variants.{Known, Refused}
-use Rattle.c_abi.specs.Abi.{dateNumber, answered, stored}
+use Rattle.study_list.specs.Lent.{answered, stored}
+use Rattle.c_abi.specs.Abi.{dateNumber}
 use Rattle.c_abi.specs.RecordCalls.{windowNumber, datesStored}
-use Rattle.c_abi.proofs.Lent.{short, long}
+use Rattle.study_list.proofs.Lent.{short, long}
 use Rattle.c_abi.proofs.block.ltd_read_window.Statement.{statement}
 use Rattle.c_abi.proofs.block.ltd_read_window.Tie as tie
 

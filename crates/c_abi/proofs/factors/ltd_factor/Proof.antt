@@ -10,8 +10,9 @@ use borrow.Author.Needs.{needs}
 use Rattle.valuation.specs.declared.GroupFactor.{GroupFactor}
 use Rattle.valuation.specs.declared.MaybeFactor.{MaybeFactor}
 use Rattle.valuation.specs.declared.MaybeFactor.the-variants.{Known, Refused}
-use Rattle.c_abi.specs.Abi.{factorNumber, factorStored, answered, stored}
-use Rattle.c_abi.proofs.Lent.{short, long}
+use Rattle.study_list.specs.Lent.{answered, stored}
+use Rattle.c_abi.specs.Abi.{factorNumber, factorStored}
+use Rattle.study_list.proofs.Lent.{short, long}
 use Rattle.c_abi.proofs.factors.ltd_factor.Statement.{statement}
 use Rattle.c_abi.proofs.factors.ltd_factor.Tie as tie
 

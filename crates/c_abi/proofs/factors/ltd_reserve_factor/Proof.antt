@@ -9,7 +9,7 @@ use borrow.Author.Tests.{eq-eqb, ne-eqb}
 use Rattle.valuation.specs.declared.Reserve.{Reserve}
 use Rattle.valuation.specs.Reserve.{reserveIn}
 use Rattle.c_abi.specs.Abi.{reserveNumber, reserveStored, reserveAnswered, reserveAfter}
-use Rattle.c_abi.proofs.Lent.{short, long}
+use Rattle.study_list.proofs.Lent.{short, long}
 use borrow.Author.Needs.{needs}
 use Rattle.c_abi.proofs.factors.ltd_reserve_factor.Statement.{statement}
 use Rattle.c_abi.proofs.factors.ltd_reserve_factor.Tie as tie

@@ -7,6 +7,7 @@ use borrow.Author.Tests.{not-true, not-false}
 use Rattle.study.specs.declared.Study.{Study}
 use Rattle.study.specs.Study.{added}
 use Rattle.c_abi.specs.StudyCalls.{studyForm}
+use Rattle.study_list.proofs.Lent.{in-room}
 use Rattle.c_abi.proofs.StudyForms.{form}
 use Rattle.c_abi.proofs.AddAnswers.{no-study, no-record, refused, taken}
 use Rattle.c_abi.proofs.study_calls.ltd_add.Statement.{statement}
@@ -33,19 +34,17 @@ returns-3 c =
     refused (g .study .now) (g .claim .now) (g .rates .now) (formed (c .before .before .before .before .before .before .before .before .before)) _ (sym (r .read .given .1) ∙ r .before .before .read-record .ensures) (a .add .result)
     (a .add .ensures ∙ ap (λ (s : Study). added s (r .read .given .0 .0) (g .rates .now)) (a .before .study-in .ensures)) (λ z. omega (arith, c .if2 .taken))
 
-put-study-requires : tie.Need-put-study-requires
-put-study-requires c κs = form _ (formed (c .before .before .before .before .before .before .before .before .before .before .before)) .room
-
 returns-4 : tie.Need-returns-4
 returns-4 c =
     let a = c .before .before .before .before .before .before in
     let r = a .before .before .before .before in
     let g = c .before .before .before .before .before .before .before .before .before .before .before .before .before .before .before .before .before .before .args in
     taken (g .study .now) (g .claim .now) (g .rates .now) (formed (c .before .before .before .before .before .before .before .before .before .before .before .before .before)) _ (sym (r .read .given .1) ∙ r .before .before .read-record .ensures) (a .add .result)
-    (a .add .ensures ∙ ap (λ (s : Study). added s (r .read .given .0 .0) (g .rates .now)) (a .before .study-in .ensures)) (omega (arith, c .before .before .before .before .if2 .left)) _ (c .before .put-study .ensures)
+    (a .add .ensures ∙ ap (λ (s : Study). added s (r .read .given .0 .0) (g .rates .now)) (a .before .study-in .ensures)) (omega (arith, c .before .before .before .before .if2 .left)) _
+    (in-room 43 (g .study .now) _ _ (form _ (formed (c .before .before .before .before .before .before .before .before .before .before .before .before .before)) .room) (c .before .put-study .ensures .1))
 
 pub ltd-add-spec : {M : Type 1} → statement M
 ltd-add-spec =
     tie.close
     (tie.spec (λ c κs. search needs) (λ c. search needs) returns (λ c κs. search needs) (λ c. search needs) (λ c. search needs) (λ c. search needs)
-    returns-2 study-in-requires (λ c κs. search needs) (λ c. search needs) returns-3 put-study-requires (λ c. search needs) returns-4)
+    returns-2 study-in-requires (λ c κs. search needs) (λ c. search needs) returns-3 (λ c κs. search needs) (λ c. search needs) returns-4)

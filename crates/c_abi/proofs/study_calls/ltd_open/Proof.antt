@@ -5,8 +5,8 @@ use borrow.Author.Needs.{needs}
 use lib.Seq.{sets}
 use Rattle.study.specs.declared.Answer.{Answer}
 use Rattle.study.specs.Study.{opened}
-use Rattle.c_abi.specs.Abi.{studyNumbers}
-use Rattle.c_abi.proofs.Lent.{short, long}
+use Rattle.study_list.specs.StudyList.{studyNumbers}
+use Rattle.study_list.proofs.Lent.{short, long, in-room}
 use Rattle.c_abi.proofs.study_calls.ltd_open.Statement.{statement}
 use Rattle.c_abi.proofs.study_calls.ltd_open.Tie as tie
 
@@ -19,7 +19,7 @@ returns-2 c =
     let e1 = o .before .before .before in
     let old = e1 .before .args .study .now in
     let e = o .open .ensures ∙ ap₂ opened (o .before .before .date-in .ensures) (o .before .date-in2 .ensures) in
-    long 43 old _ _ _ _ (omega arith) (ap (λ (a : Answer). a .refused) e) (c .before .put-study .ensures ∙ ap (λ (a : Answer). sets old 0 (studyNumbers (a .study))) e)
+    long 43 old _ _ _ _ (omega arith) (ap (λ (a : Answer). a .refused) e) (in-room 43 old _ _ (omega arith) (c .before .put-study .ensures .1) ∙ ap (λ (a : Answer). sets old 0 (studyNumbers (a .study))) e)
 
 pub ltd-open-spec : {M : Type 1} → statement M
 ltd-open-spec =

@@ -1,8 +1,8 @@
 -- `ltd_prepared_file_study` meets its contract. Assumes nothing.
 use borrow.Author.Needs.{needs}
-use Rattle.c_abi.proofs.RunsStored.{run-stored}
-use Rattle.c_abi.proofs.file.ltd_prepared_file_study.Statement.{statement}
-use Rattle.c_abi.proofs.file.ltd_prepared_file_study.Tie as tie
+use Rattle.c_file.proofs.RunsStored.{run-stored}
+use Rattle.c_file.proofs.ltd_prepared_file_study.Statement.{statement}
+use Rattle.c_file.proofs.ltd_prepared_file_study.Tie as tie
 
 returns : tie.Need-returns
 returns c =

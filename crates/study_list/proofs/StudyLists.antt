@@ -21,7 +21,7 @@ use Rattle.basics.proofs.Tables.{table-length}
 use Rattle.study.specs.declared.Sums.{Sums}
 use Rattle.study.specs.declared.Group.{Group}
 use Rattle.study.specs.Sums.{groupFigures}
-use Rattle.c_abi.specs.Abi.{countNumbers, groupNumbers, groupsNumbers}
+use Rattle.study_list.specs.StudyList.{countNumbers, groupNumbers, groupsNumbers}
 
 -- a number that fits is read back from its bits
 pub unsigned : (n : ℕ) → n < 4294967296 → toZ w64 (ofZ w64 (pos n)) ≡ pos n

@@ -1,4 +1,5 @@
-// The calls for the study of a whole claim file, and for preparing a rate table.
+// The calls for the study of a whole claim file, and for preparing a rate table. They have a static library of their own: beside other callers of
+// adding the compiler keeps it a call, alone it inlines a claim's whole way into the run.
 ghost use mathlib.Core.Path.{_≡_};
 ghost use denote.Ref.{now};
 ghost use lib.Seq.{sets};
@@ -6,12 +7,12 @@ ghost use Rattle.rates.specs.declared.Kind.the-variants.{Prepared};
 ghost use Rattle.rates.specs.Prepared.{prepareCheck, prepareAfter};
 ghost use Rattle.claim_file.specs.Run.{fileRunWith, fileRun};
 ghost use Rattle.claim_file.specs.PreparedRuns.{addingWith};
-ghost use Rattle.c_abi.specs.Abi.{runNumbers, answered, stored};
-use crate::study_list::put;
-use crate::study_list::put_study;
-use crate::study_list::signed;
+ghost use Rattle.study_list.specs.Lent.{answered, stored};
+ghost use Rattle.c_file.specs.FileCalls.{runNumbers};
 use claim_file::FileRun;
 use rates::Kind;
+use study_list::put_study;
+use study_list::signed;
 
 // Stores number, block and place of a run, and its study, and answers the number.
 fn put_run(run: FileRun, out: &mut [i64]) -> u8
@@ -22,9 +23,9 @@ fn put_run(run: FileRun, out: &mut [i64]) -> u8
         return 255;
     }
     let study = run.study;
-    put(signed(run.refused as u32), 0, out);
-    put(signed(run.block), 1, out);
-    put(signed(run.place as u32), 2, out);
+    out[0] = signed(run.refused as u32);
+    out[1] = signed(run.block);
+    out[2] = signed(run.place as u32);
     put_study(study, 3, out);
     run.refused
 }

@@ -1,9 +1,9 @@
 -- `signed` meets its contract. Assumes nothing.
 use native.Mathlib.Omega.{arith}
-use Rattle.c_abi.proofs.StudyLists.{unsigned}
+use Rattle.study_list.proofs.StudyLists.{unsigned}
 use borrow.Author.Needs.{needs}
-use Rattle.c_abi.proofs.study_list.signed.Statement.{statement}
-use Rattle.c_abi.proofs.study_list.signed.Tie as tie
+use Rattle.study_list.proofs.signed.Statement.{statement}
+use Rattle.study_list.proofs.signed.Tie as tie
 
 returns : tie.Need-returns
 returns c = unsigned (c .args .number) (omega arith)

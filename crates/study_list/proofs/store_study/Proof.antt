@@ -1,12 +1,12 @@
--- `put_study` meets its contract: the window, the claims taken and the groups are one run of stores. Assumes nothing.
+-- `store_study` meets its contract: the window, the claims taken and the groups are one run of stores. Assumes nothing.
 use mathlib.Core.Path.{_∙_}
 use borrow.Author.Needs.{needs}
 use mir.Syntax.{w64}
 use mir.Facts.{toZ-ofZ}
-use Rattle.c_abi.specs.Abi.{groupsNumbers, studyNumbers}
-use Rattle.c_abi.proofs.StudyLists.{three-and}
-use Rattle.c_abi.proofs.study_list.put_study.Statement.{statement}
-use Rattle.c_abi.proofs.study_list.put_study.Tie as tie
+use Rattle.study_list.specs.StudyList.{groupsNumbers, studyNumbers}
+use Rattle.study_list.proofs.StudyLists.{three-and}
+use Rattle.study_list.proofs.store_study.Statement.{statement}
+use Rattle.study_list.proofs.store_study.Tie as tie
 
 returns : tie.Need-returns
 unfolding studyNumbers
@@ -23,8 +23,8 @@ returns c =
     (toZ-ofZ {w = w64} (record { sfits = s2 .signed2 .ok }) ∙ s2 .signed2 .ensures) (toZ-ofZ {w = w64} (record { sfits = s3 .signed3 .ok }) ∙ s3 .signed3 .ensures)
     (p1 .put .ensures) (p2 .put2 .ensures) (p3 .put3 .ensures) (pg .put-groups .ensures)
 
-pub put-study-spec : {M : Type 1} → statement M
-put-study-spec =
+pub store-study-spec : {M : Type 1} → statement M
+store-study-spec =
     tie.close
     (tie.spec (λ c κs. search needs) (λ c κs. search needs) (λ c κs. search needs) (λ c. search needs) (λ c κs. search needs) (λ c κs. search needs)
     (λ c. search needs) (λ c κs. search needs) (λ c. search needs) (λ c κs. search needs) (λ c. search needs) returns)

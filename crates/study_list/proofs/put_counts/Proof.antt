@@ -10,10 +10,10 @@ use borrow.Author.Needs.{needs}
 use mir.Syntax.{w64}
 use mir.Facts.{toZ-ofZ}
 use Rattle.basics.proofs.Stores.{run}
-use Rattle.c_abi.specs.Abi.{countNumbers}
-use Rattle.c_abi.proofs.StudyLists.{counts-length, counts-more}
-use Rattle.c_abi.proofs.study_list.put_counts.Statement.{statement}
-use Rattle.c_abi.proofs.study_list.put_counts.Tie as tie
+use Rattle.study_list.specs.StudyList.{countNumbers}
+use Rattle.study_list.proofs.StudyLists.{counts-length, counts-more}
+use Rattle.study_list.proofs.put_counts.Statement.{statement}
+use Rattle.study_list.proofs.put_counts.Tie as tie
 
 abbrev Inv-loop : tie.InvT-loop
 Inv-loop at out₀ counts x₀ out x = (x ≤ 5) × (out ≡ sets out₀ at (countNumbers (take x counts))) × (at + 5 ≤ length out)

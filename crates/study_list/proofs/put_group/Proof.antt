@@ -11,10 +11,10 @@ use mir.Syntax.{w64}
 use mir.Facts.{toZ-ofZ}
 use Rattle.basics.proofs.Stores.{run}
 use Rattle.study.specs.declared.Group.{Group}
-use Rattle.c_abi.specs.Abi.{countNumbers, groupNumbers}
-use Rattle.c_abi.proofs.StudyLists.{counts-length}
-use Rattle.c_abi.proofs.study_list.put_group.Statement.{statement}
-use Rattle.c_abi.proofs.study_list.put_group.Tie as tie
+use Rattle.study_list.specs.StudyList.{countNumbers, groupNumbers}
+use Rattle.study_list.proofs.StudyLists.{counts-length}
+use Rattle.study_list.proofs.put_group.Statement.{statement}
+use Rattle.study_list.proofs.put_group.Tie as tie
 
 -- four runs of stores, of 1, 5, 1 and 1 numbers
 four-runs : (g : Group) (l a b d e : List ℤ) (at : ℕ) (t r h : ℤ) → length (g .closings) ≡ 5 → t ≡ g .thirtieths → r ≡ g .recoveries → h ≡ g .deaths

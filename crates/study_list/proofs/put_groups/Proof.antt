@@ -8,10 +8,10 @@ use borrow.Author.Needs.{needs}
 use Rattle.basics.proofs.Stores.{run}
 use Rattle.study.specs.declared.Group.{Group}
 use Rattle.study.specs.Sums.{groupFigures}
-use Rattle.c_abi.specs.Abi.{groupNumbers, groupsNumbers}
-use Rattle.c_abi.proofs.StudyLists.{groups-length, groups-more}
-use Rattle.c_abi.proofs.study_list.put_groups.Statement.{statement}
-use Rattle.c_abi.proofs.study_list.put_groups.Tie as tie
+use Rattle.study_list.specs.StudyList.{groupNumbers, groupsNumbers}
+use Rattle.study_list.proofs.StudyLists.{groups-length, groups-more}
+use Rattle.study_list.proofs.put_groups.Statement.{statement}
+use Rattle.study_list.proofs.put_groups.Tie as tie
 
 abbrev Inv-loop : tie.InvT-loop
 Inv-loop sums at out₀ group₀ out group = (group ≤ 5) × (out ≡ sets out₀ at (groupsNumbers sums group)) × (at + 40 ≤ length out)

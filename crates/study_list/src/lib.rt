@@ -1,25 +1,27 @@
-// A study as a list of 43 numbers.
+// A study as a list of 43 numbers, for the calls of C and Rust.
 ghost use mathlib.Core.Path.{_≡_};
 ghost use Prim.Native.Nat.{_+_, _*_, _≤_, _<_};
 ghost use denote.Ref.{now};
+ghost use lib.Dec.{leb};
 ghost use lib.IntN.{pos};
 ghost use lib.ListN.{length};
 ghost use lib.Seq.{sets};
 ghost use mathlib.Core.List.{[], _∷_};
-ghost use Rattle.c_abi.specs.Abi.{countNumbers, groupNumbers, groupsNumbers, studyNumbers};
+ghost use Rattle.basics.specs.Pick.{pick};
+ghost use Rattle.study_list.specs.StudyList.{countNumbers, groupNumbers, groupsNumbers, studyNumbers};
 use study::Group;
 use study::Study;
 use study::Sums;
 
 // A number as a signed one.
-pub(crate) fn signed(number: u32) -> i64
+pub fn signed(number: u32) -> i64
     ensures { λ r. ⌜ r ≡ pos number ⌝ }
 {
     number as i64
 }
 
 // Stores a number.
-pub(crate) fn put(number: i64, at: usize, out: &mut [i64])
+fn put(number: i64, at: usize, out: &mut [i64])
     requires { ⌜ at < length (now out) ⌝ }
     ensures { λ _. ⌜ now (out .exit) ≡ sets (now (out .entry)) at (number ∷ []) ⌝ }
 {
@@ -61,8 +63,8 @@ fn put_groups(sums: Sums, at: usize, out: &mut [i64])
     }
 }
 
-// Stores a study's 43 numbers from a place on.
-pub(crate) fn put_study(study: Study, at: usize, out: &mut [i64])
+// Stores a study's 43 numbers where they fit.
+fn store_study(study: Study, at: usize, out: &mut [i64])
     requires { ⌜ at + 43 ≤ length (now out) ⌝ }
     ensures { λ _. ⌜ now (out .exit) ≡ sets (now (out .entry)) at (studyNumbers study) ⌝ }
 {
@@ -71,4 +73,20 @@ pub(crate) fn put_study(study: Study, at: usize, out: &mut [i64])
     put(signed(study.window.last.0), at + 1, out);
     put(signed(study.taken), at + 2, out);
     put_groups(sums, at + 3, out);
+}
+
+// Stores a study's 43 numbers from a place on, and answers whether they fit there; nothing is written where they don't.
+pub fn put_study(study: Study, at: usize, out: &mut [i64]) -> bool
+    ensures { λ r. ⌜ r ≡ leb (at + 43) (length (now (out .entry))) ⌝ }
+    ensures { λ _. ⌜ now (out .exit) ≡ pick (leb (at + 43) (length (now (out .entry)))) (sets (now (out .entry)) at (studyNumbers study)) (now (out .entry)) ⌝ }
+{
+    let length = out.len();
+    if length < 43 {
+        return false;
+    }
+    if at > length - 43 {
+        return false;
+    }
+    store_study(study, at, out);
+    true
 }

@@ -1,0 +1,2 @@
+-- `RunsStored`: a run in a list.
+mod RunsStored
