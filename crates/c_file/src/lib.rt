@@ -1,5 +1,5 @@
-// The calls for the study of a whole claim file, and for preparing a rate table. They have a static library of their own: beside other callers of
-// adding the compiler keeps it a call, alone it inlines a claim's whole way into the run.
+// The calls for the study of a whole claim file, and for preparing a rate table. They have a static library of their own, since the
+// compiler inlines a claim's checks, span and adding into the run only where nothing else calls these.
 ghost use mathlib.Core.Path.{_≡_};
 ghost use denote.Ref.{now};
 ghost use lib.Seq.{sets};
