@@ -1,15 +1,15 @@
 -- Records by their fields and as the tests of their calls come out, and the definitions of blocks step by step as the code's loops go.
 -- Assumes nothing.
-use Prim.Native.Nat.{ℕ, suc, _+_, _-_, _*_, _≤_, _<_}
+use Prim.Native.Nat.{ℕ, suc, _+_, _-_, _*_, _%_, _≤_, _<_, min}
 use mathlib.Core.Path.{_≡_, refl, sym, ap, _∙_}
 use mathlib.Core.Bool.{Bool, true, false, _&&_, and-true, and-false, and-assoc}
 use mathlib.Core.List.{List}
 use native.Mathlib.Omega.{arith}
-use native.Mathlib.Nat.{mul-le-mul}
+use native.Mathlib.Nat.{mul-le-mul, zero-mul}
 use native.Mathlib.Numerals.{add-one}
 use lib.ListN.{length}
 use lib.Seq.{sets}
-use lib.Dec.{eqb}
+use lib.Dec.{ltb, eqb}
 use lib.Bits.{bitOr, or-add-and, and-le-l, and-le-r}
 use borrow.Author.Tests.{eq-eqb, ne-eqb, eqb-false}
 use Rattle.basics.proofs.Tests.{by, tests}
@@ -100,9 +100,20 @@ pub weighted-step : (bytes : List ℕ) (n : ℕ) → weightedSum bytes (n + 1) �
 unfolding weightedSum
 weighted-step bytes n = ap (weightedSum bytes) (add-one n)
 
--- a weighted byte is at most 510 × 255
-pub weighted-byte : (n b : ℕ) → n < 510 → b < 256 → (n + 1) * b ≤ 130050
-weighted-byte n b h l =
-    let p : n + 1 ≤ 510 = omega arith in
-    let q : b ≤ 255 = omega arith in
-    mul-le-mul p q
+-- one byte more, with the weight that the code gives it: one more than its place, and 0 at place 511
+pub weighted-turn : (bytes : List ℕ) (n w : ℕ) → n < 512 → w ≡ (n + 1) % 512 → weightedSum bytes (min n 511) + w * byteAt bytes n ≡ weightedSum bytes (min (n + 1) 511)
+weighted-turn bytes n w h e =
+    by (ltb n 511) (λ _. weightedSum bytes (min n 511) + w * byteAt bytes n ≡ weightedSum bytes (min (n + 1) 511))
+    (λ t.
+    let here : min n 511 ≡ n = omega tests in
+    let next : min (n + 1) 511 ≡ n + 1 = omega tests in
+    let weight : w ≡ n + 1 = omega tests in
+    rw (next, here, weight) (sym (weighted-step bytes n)))
+    (λ t.
+    let last : n ≡ 511 = omega tests in
+    let weight : w ≡ 0 = omega tests in
+    rw (last, weight, zero-mul (byteAt bytes 511)) (omega arith))
+
+-- a weighted byte is at most 511 × 255
+pub weighted-byte : (w b : ℕ) → w ≤ 511 → b < 256 → w * b ≤ 130305
+weighted-byte w b h l = let q : b ≤ 255 = omega arith in mul-le-mul h q

@@ -1,27 +1,37 @@
--- `weighted_sum` meets its contract. The loop's invariant: the sum of the bytes passed, each at most 510 × 255. Assumes nothing.
+-- `weighted_sum` meets its contract. The loop's invariant: the sum of the bytes passed, each at most 511 × 255, without that of place 511.
+-- Assumes nothing.
 use native.Mathlib.Omega.{arith}
-use Prim.Native.Nat.{_+_, _*_, _-_, _≤_, _<_}
+use Prim.Native.Nat.{ℕ, _+_, _*_, _-_, _≤_, _<_, min}
 use mathlib.Core.Path.{_≡_, refl, ap, _∙_}
+use mathlib.Core.List.{List}
 use lib.ListN.{getD}
+use mir.Syntax.{w32}
+use mir.Val.{Fits}
 use Rattle.claim_file.specs.Bytes.{byteAt}
 use Rattle.claim_file.specs.Block.{weightedSum}
-use Rattle.claim_file.proofs.RecordParts.{weighted-step, weighted-byte}
+use Rattle.claim_file.proofs.RecordParts.{weighted-step, weighted-turn, weighted-byte}
 use Rattle.claim_file.proofs.blocks.weighted_sum.Statement.{statement}
 use Rattle.claim_file.proofs.blocks.weighted_sum.Tie as tie
 
 abbrev Inv-loop : tie.InvT-loop
-Inv-loop bytes sum₀ i₀ sum i = (i ≤ 510) × (sum ≤ 130050 * i) × (sum ≡ weightedSum bytes i)
+Inv-loop bytes sum₀ i₀ sum i = (i ≤ 512) × (sum ≤ 130305 * i) × (sum ≡ weightedSum bytes (min i 511))
 
 abbrev μ-loop : tie.MeasureT-loop
-μ-loop bytes sum₀ i₀ sum i = 510 - i
+μ-loop bytes sum₀ i₀ sum i = 512 - i
 
 byte : (c : tie.After-shared-slice-known Inv-loop μ-loop) → getD (c .before .before .before .args .bytes .now) (c .before .before .loop .i) 0 < 256
 byte c = omega (arith, c .shared-slice-known .given (c .before .before .loop .i))
 
-term :
-    (c : tie.After-shared-slice-known Inv-loop μ-loop)
-    → (c .before .before .loop .i + 1) * getD (c .before .before .before .args .bytes .now) (c .before .before .loop .i) 0 ≤ 130050
-term c = weighted-byte _ _ (omega arith) (byte c)
+-- at any weight up to 511 a byte can be added
+module _ {sum i w b : ℕ} (s : sum ≤ 130305 * i) (h : i < 512) (few : w ≤ 511) (low : b < 256) where
+  product-fits : Fits w32 (w * b)
+  product-fits = omega (arith, weighted-byte w b few low)
+
+  sum-fits : Fits w32 (sum + w * b)
+  sum-fits = omega (arith, weighted-byte w b few low)
+
+  sum-small : sum + w * b ≤ 130305 * (i + 1)
+  sum-small = omega (arith, weighted-byte w b few low)
 
 loop-holds : tie.Need-loop-holds Inv-loop μ-loop
 unfolding weightedSum
@@ -31,23 +41,35 @@ cast-sum-2 : tie.Need-cast-sum-2 Inv-loop μ-loop
 cast-sum-2 c = omega (arith, byte c)
 
 mul-sum : tie.Need-mul-sum Inv-loop μ-loop
-mul-sum c = omega (arith, term c)
+mul-sum c = product-fits (c .before .before .loop .inv .1) (omega arith) (omega arith) (byte c)
 
 add-sum-2 : tie.Need-add-sum-2 Inv-loop μ-loop
-add-sum-2 c = omega (arith, term c)
+add-sum-2 c = sum-fits (c .before .before .loop .inv .1) (omega arith) (omega arith) (byte c)
 
 loop-again : tie.Need-loop-again Inv-loop μ-loop
 unfolding byteAt
 loop-again c =
-    let l = c .before .before .loop in
-    let s = weighted-step (c .before .before .before .args .bytes .now) (l .i) in
-    (omega arith, omega (arith, term c), omega arith)
+    let l = c .before .before .loop in (
+      omega arith,
+      sum-small (l .inv .1) (omega arith) (omega arith) (byte c),
+      rw (l .inv .2) (weighted-turn (c .before .before .before .args .bytes .now) (l .i) _ (omega arith) (omega arith)),
+    )
 
-returns : tie.Need-returns Inv-loop μ-loop
-returns c = let e : c .before .loop .i ≡ 510 = omega arith in c .before .loop .inv .2 ∙ ap (weightedSum (c .before .before .args .bytes .now)) e
+-- past the loop the sum has place 510's byte with the weight 511
+module _ (c : tie.After-shared-slice-known2 Inv-loop μ-loop) where
+  abbrev bytes : List ℕ
+  bytes = c .before .before .before .args .bytes .now
+
+  byte-510 : getD bytes 510 0 < 256
+  byte-510 = omega (arith, c .shared-slice-known2 .given 510)
+
+  whole : c .before .before .loop .sum ≡ weightedSum bytes 510 + 511 * getD bytes 510 0
+  unfolding byteAt
+  whole = let e : min (c .before .before .loop .i) 511 ≡ 511 = omega arith in c .before .before .loop .inv .2 ∙ ap (weightedSum bytes) e ∙ weighted-step bytes 510
 
 pub weighted-sum-spec : {M : Type 1} → statement M
 weighted-sum-spec =
     tie.close
     (tie.spec Inv-loop μ-loop loop-holds (λ c. omega arith) (λ c. omega arith) (λ c. omega arith) cast-sum-2 mul-sum add-sum-2 (λ c. omega arith)
-    (λ c. omega arith) loop-again returns)
+    (λ c. omega arith) loop-again (λ c. omega arith) (λ c. omega (arith, byte-510 c))
+    (λ c. omega (arith, byte-510 c)) (λ c. omega (arith, whole c)) (λ c. omega (arith, whole c)))
