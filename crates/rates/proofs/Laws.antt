@@ -109,6 +109,19 @@ group-same d e h =
     (λ o p q. simp (lt-leb e 3 (omega arith), lt-leb e 24 (omega arith), lt-leb e 60 (omega arith), le-leb e 120 (omega arith)))
     (λ o q. simp (lt-leb e 3 (omega arith), lt-leb e 24 (omega arith), lt-leb e 60 (omega arith), lt-leb e 120 (omega arith)))
 
+-- a duration past the last of a group is in a later group
+past : (e k : ℕ) → (e ≤ 3 → k < 1) → (e ≤ 24 → k < 2) → (e ≤ 60 → k < 3) → (e ≤ 120 → k < 4) → k < 5 → k < groupOf e
+past e k p1 p2 p3 p4 p5 = by-group e (λ g _. k < g) p1 (λ _. p2) (λ _. p3) (λ _. p4) (λ _. p5)
+
+pub group-next : (d e : ℕ) → groupLast d < e → e ≤ 4294967295 → groupOf d < groupOf e
+group-next d e =
+    by-group d (λ g l. l < e → e ≤ 4294967295 → g < groupOf e)
+    (λ p q h. past e 1 (λ x. omega arith) (λ x. omega arith) (λ x. omega arith) (λ x. omega arith) (omega arith))
+    (λ o p q h. past e 2 (λ x. omega arith) (λ x. omega arith) (λ x. omega arith) (λ x. omega arith) (omega arith))
+    (λ o p q h. past e 3 (λ x. omega arith) (λ x. omega arith) (λ x. omega arith) (λ x. omega arith) (omega arith))
+    (λ o p q h. past e 4 (λ x. omega arith) (λ x. omega arith) (λ x. omega arith) (λ x. omega arith) (omega arith))
+    (λ o q h. absurd (omega arith))
+
 -- the rates over n durations from one on that isn't before 2: each adds its own
 module _ (rate : ℕ → ℤ) (d n : ℕ) (h : 2 ≤ d) where
   from-itself : max d 2 ≡ d

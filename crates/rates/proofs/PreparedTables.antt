@@ -1,4 +1,4 @@
--- The prepared table of some rates has their checks and their rates.
+-- The prepared table of some rates has their checks and their rates, and how large a table's rates can be.
 -- Assumes nothing.
 use Prim.Native.Nat.{ℕ, zero, suc, _+_, _-_, _*_, _/_, _≤_, _<_}
 use mathlib.Core.Path.{_≡_, refl, sym, ap, _∙_}
@@ -9,14 +9,18 @@ use lib.ListN.{length, getD, take, drop, length-append, length-take, length-drop
 use borrow.Author.Tests.{ltb-true, le-leb, lt-leb}
 use lib.Seq.{getD-at, getD-set-same, length-take-le, drop-drop, getD-append-add, getD-take, getD-drop, take-at}
 use lib.Dec.{leb, ltb, eqb}
-use lib.IntN.{pos}
+use lib.IntN.{pos, natAbs, _-ℤ_}
 use native.Mathlib.Nat.{zero-add, add-zero, add-assoc}
 use Rattle.basics.specs.Checks.{check, _then_}
+use Rattle.basics.specs.Tables.{allAtMost}
 use Rattle.basics.proofs.Tests.{by}
+use Rattle.basics.proofs.Tables.{at-most-at}
 use Rattle.rates.specs.Rates.{lengthSound, cells, place, recoveryRate, deathRate, ratesSoundTo, ratesSound, rateCheck}
-use Rattle.rates.proofs.Running.{running-length, running-first, running-rates}
+use Rattle.rates.specs.declared.Kind.{Kind}
+use Rattle.rates.specs.declared.Kind.the-variants.{Plain, Prepared}
+use Rattle.rates.proofs.Running.{running-length, running-first, running-rates, difference-size}
 use Rattle.rates.proofs.Laws.{place-below, all-passed}
-use Rattle.rates.specs.Prepared.{cellNumbers, mark, marked, runningFrom, preparedCell, preparedCells, prepared, prepareAfter, preparedOf, preparedCheck, preparedRate, checkOf, recoveryOf, deathOf, SameTable}
+use Rattle.rates.specs.Prepared.{cellNumbers, mark, marked, runningFrom, preparedCell, preparedCells, prepared, prepareAfter, preparedOf, preparedCheck, sumBefore, preparedRate, checkOf, recoveryOf, deathOf, SameTable}
 use Rattle.rates.proofs.Preparing.{sound-length, marked-is, sound-pair}
 
 -- the prepared cells by their places
@@ -206,3 +210,24 @@ module _ (rates : List ℕ) (taken : lengthSound (length rates) ≡ true) where
 
 pub same-table : (rates : List ℕ) → SameTable rates
 same-table rates = by (lengthSound (length rates)) (λ _. SameTable rates) (same-taken rates) (same-refused rates)
+
+-- in a table of 32-bit numbers no rate is larger than such a number, whatever its kind
+module _ (table : List ℕ) (small : allAtMost 4294967295 table ≡ true) where
+  before-size : (at p x : ℕ) → x ≤ 4294967295 → natAbs (pos x -ℤ sumBefore table at p) ≤ 4294967295
+  unfolding sumBefore
+  before-size at zero x h = difference-size x 0 h (omega arith)
+  before-size at (suc p) x h = difference-size x _ h (at-most-at 4294967295 table (at + p) small)
+
+  rate-size : (at d : ℕ) → natAbs (preparedRate table at d) ≤ 4294967295
+  unfolding preparedRate
+  rate-size at d = before-size at (place d) _ (at-most-at 4294967295 table (at + place d) small)
+
+  pub recovery-size : (kind : Kind) (cell d : ℕ) → natAbs (recoveryOf kind table cell d) ≤ 4294967295
+  unfolding recoveryOf recoveryRate
+  recovery-size Plain cell d = at-most-at 4294967295 table (cell * 958 + place d) small
+  recovery-size Prepared cell d = rate-size (cell * 958) d
+
+  pub death-size : (kind : Kind) (cell d : ℕ) → natAbs (deathOf kind table cell d) ≤ 4294967295
+  unfolding deathOf deathRate
+  death-size Plain cell d = at-most-at 4294967295 table (cell * 958 + 479 + place d) small
+  death-size Prepared cell d = rate-size (cell * 958 + 479) d
