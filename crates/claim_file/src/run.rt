@@ -1,7 +1,9 @@
 // The file run: blocks 0, 1, 2, .. in order, up to the first refusal.
 ghost use mathlib.Core.Path.{_≡_};
+ghost use mathlib.Core.Bool.{_||_};
 ghost use Prim.Native.Nat.{_+_, _-_, _≤_, _<_};
 ghost use denote.Ref.{now};
+ghost use Rattle.study.specs.Sums.{within};
 ghost use Rattle.study.specs.PreparedAdding.{lentSums, lentStudy};
 ghost use Rattle.claim_file.specs.Run.{adding, started, begun, goesOn, stops, fed, ended, fileRunWith, fileRun};
 ghost use Rattle.claim_file.specs.PreparedRuns.{addingWith};
@@ -17,6 +19,8 @@ use study::Answer;
 use study::Study;
 use study::Sums;
 use study::add_to;
+use study::room::has_room;
+use study::room::has_room_for_block;
 
 // Where the block that starts at a byte ends: 512 bytes on, or with the file.
 fn block_end(at: usize, len: usize) -> usize
@@ -44,6 +48,22 @@ fn begin(study: Study, due: u32, bytes: &[u8]) -> Answer
         return Study::open(date_at(bytes, 16), date_at(bytes, 20));
     }
     Answer { refused: 0, study }
+}
+
+// Whether lent sums are within the bounds of refusal 9; no look is needed where they had room to spare for their block.
+fn still_room(
+    spare: bool,
+    thirtieths: &[i64],
+    closings: &[u32],
+    recoveries: &[i64],
+    deaths: &[i64],
+) -> bool
+    ensures { λ r. ⌜ r ≡ (spare || within 1 (lentSums (now (thirtieths .entry)) (now (closings .entry)) (now (recoveries .entry)) (now (deaths .entry)))) ⌝ }
+{
+    if spare {
+        return true;
+    }
+    has_room(thirtieths, closings, recoveries, deaths)
 }
 
 // A study from its parts.
@@ -119,7 +139,8 @@ impl FileRun {
     }
 
     // The run with the blocks of some bytes taken, a part block at the end with them, up to the first refusal, with a table of either
-    // kind. The sums are lent to each addition: a study handed on by value would be a copy with each claim.
+    // kind. The sums are lent to each addition: a study handed on by value would be a copy with each claim. They are looked at once for all
+    // claims of a block where these can't take one past its bound.
     pub fn feed_with(self, kind: Kind, table: &[u32], bytes: &[u8]) -> FileRun
         ensures { λ r. ⌜ r ≡ fed self (addingWith kind (now (table .entry))) (now (bytes .entry)) ⌝ }
     {
@@ -144,6 +165,7 @@ impl FileRun {
             let mut closings = sums.closings;
             let mut recoveries = sums.recoveries;
             let mut deaths = sums.deaths;
+            let spare = has_room_for_block(&thirtieths, &closings, &recoveries, &deaths);
             let count = part[2];
             let mut place = 0;
             while place < count {
@@ -154,6 +176,7 @@ impl FileRun {
                     claim,
                     window,
                     taken,
+                    still_room(spare, &thirtieths, &closings, &recoveries, &deaths),
                     &mut thirtieths,
                     &mut closings,
                     &mut recoveries,

@@ -1,17 +1,17 @@
 -- Check 9 doesn't fire under 500,000 accepted claims: each claim adds at most 54,000 thirtieths, 54,000,000,000 expected and one closing.
 -- Assumes nothing.
-use Prim.Native.Nat.{ℕ, zero, suc, _+_, _-_, _*_, _/_, _%_, _≤_, _<_}
-use mathlib.Core.Path.{_≡_, refl, sym, ap, ap₂, _∙_, subst}
-use mathlib.Core.Bool.{Bool, true, false, _&&_}
+use Prim.Native.Nat.{ℕ, suc, _+_, _-_, _*_, _/_, _%_, _≤_, _<_}
+use mathlib.Core.Path.{_≡_, _∙_, subst}
+use mathlib.Core.Bool.{true}
 use mathlib.Core.List.{List, [], _∷_}
 use lib.ListN.{length, getD}
-use lib.Dec.{leb, ltb, eqb}
+use lib.Dec.{eqb}
 use lib.IntN.{ℤ, pos, natAbs, _+ℤ_}
 use native.Mathlib.Nat.{mul-add, mul-le-mul, mul-le-mul-left}
-use borrow.Author.Tests.{lt-ltb, ltb-true}
+use borrow.Author.Tests.{lt-ltb}
 use Rattle.basics.specs.Pick.{pick}
-use Rattle.basics.specs.Tables.{table, allWithin, allAtMost}
-use Rattle.basics.proofs.Tests.{tests, by, and-left, and-right}
+use Rattle.basics.specs.Tables.{table, allWithin}
+use Rattle.basics.proofs.Tests.{tests, by}
 use Rattle.basics.proofs.Checks.{then-passed}
 use Rattle.basics.proofs.Integers.{size-sum}
 use Rattle.basics.proofs.Tables.{table-length, table-at, within-list, at-most-list}
@@ -22,14 +22,14 @@ use Rattle.claim_months.specs.Exposure.{monthRecords, closedIn, closings}
 use Rattle.claim_months.proofs.Sound.{Sound, sound}
 use Rattle.claim_months.proofs.Ranges.{weighted-size}
 use Rattle.claim_months.proofs.Closing.{closings-value, closingDuration}
-use Rattle.rates.specs.Rates.{groupOf, recoveryRate, deathRate, rateCheck}
+use Rattle.rates.specs.Rates.{groupOf, rateCheck}
 use Rattle.rates.proofs.Laws.{recovery-bound, death-bound}
-use Rattle.study.specs.declared.Study.{Study}
 use Rattle.study.specs.declared.Sums.{Sums}
 use Rattle.study.specs.Sums.{signedEach, each, none, plus, within}
 use Rattle.study.specs.Study.{inGroup, groupWeight, exposure, closingCount, expected, recordSums, shareOf, sumOver, studyOf, hasRoom}
 use Rattle.study.specs.Demand3.{ownRefusal}
 use Rattle.study.proofs.Algebra.{Shaped, signed-at, count-at}
+use Rattle.study.proofs.Bounds.{so-bounded, within-bounds}
 use Rattle.study.proofs.SumOver.{All, sums, good-sum}
 
 -- a claim that is accepted
@@ -53,48 +53,52 @@ group-size : (g m : ℕ) (w : ℕ → ℤ) → ((d : ℕ) → natAbs (w d) ≤ m
 unfolding groupWeight
 group-size g m w h d = by (eqb (groupOf d) g) (λ t. natAbs (pick t (w d) (pos 0)) ≤ m) (λ q. h d) (λ q. omega tests)
 
--- what one accepted claim adds
+-- what one sound claim adds, with rates up to m
 exposure-size : (c : Claim) (b e g : ℕ) → natAbs (exposure g (monthRecords c b e)) ≤ 54000
 unfolding exposure
 exposure-size c b e g = weighted-size (groupWeight g (λ d. pos 1)) 1 (group-size g 1 (λ d. pos 1) (λ d. omega tests)) c b e
 
-expected-size : (rate : ℕ → ℕ) → ((d : ℕ) → rate d ≤ 1000000) → (c : Claim) (b e g : ℕ) → natAbs (expected (λ d. pos (rate d)) g (monthRecords c b e)) ≤ 54000000000
+expected-size : (m : ℕ) (rate : ℕ → ℤ) → ((d : ℕ) → natAbs (rate d) ≤ m) → (c : Claim) (b e g : ℕ) → natAbs (expected rate g (monthRecords c b e)) ≤ m * 30 * 1800
 unfolding expected
-expected-size rate h c b e g = weighted-size (groupWeight g (λ d. pos (rate d))) 1000000 (group-size g 1000000 (λ d. pos (rate d)) h) c b e
+expected-size m rate h c b e g = weighted-size (groupWeight g rate) m (group-size g m rate h) c b e
 
-closing-one : (rates : List ℕ) (c : Claim) → Accepted rates c → (b e g x : ℕ) → closingCount g x (monthRecords c b e) ≤ 1
+closing-one : (c : Claim) → Sound c → (b e g x : ℕ) → closingCount g x (monthRecords c b e) ≤ 1
 unfolding closingCount
-closing-one rates c h b e g x =
+closing-one c ok b e g x =
     let w : ℕ → ℕ → ℕ = λ d y. inGroup g d * pick (eqb y x) 1 0 in
     let one : pick (eqb (category c) x) 1 0 ≤ 1 = by (eqb (category c) x) (λ t. pick t 1 0 ≤ 1) (λ q. omega tests) (λ q. omega tests) in
     let m : inGroup g (closingDuration c) * pick (eqb (category c) x) 1 0 ≤ 1 = mul-le-mul (group-one g (closingDuration c)) one in
-    rw (closings-value c (accepted-sound rates c h) w b e)
+    rw (closings-value c ok w b e)
     (by (closedIn c b e) (λ t. pick t (w (closingDuration c) (category c)) 0 ≤ 1) (λ q. m) (λ q. omega tests))
 
--- what m accepted claims have at the most: 54,000 thirtieths, 54,000,000,000 expected and one closing each
-pub record Sized (m : ℕ) (s : Sums) : Type 0 where
+-- what m sound claims have at the most: 54,000 thirtieths, x expected and one closing each
+pub record Sized (x m : ℕ) (s : Sums) : Type 0 where
   pub thirtieths : (k : ℕ) → k < 5 → natAbs (getD (s .thirtieths) k (pos 0)) ≤ 54000 * m
   pub closings : (k : ℕ) → k < 25 → getD (s .closings) k 0 ≤ m
-  pub recoveries : (k : ℕ) → k < 5 → natAbs (getD (s .recoveries) k (pos 0)) ≤ 54000000000 * m
-  pub deaths : (k : ℕ) → k < 5 → natAbs (getD (s .deaths) k (pos 0)) ≤ 54000000000 * m
+  pub recoveries : (k : ℕ) → k < 5 → natAbs (getD (s .recoveries) k (pos 0)) ≤ x * m
+  pub deaths : (k : ℕ) → k < 5 → natAbs (getD (s .deaths) k (pos 0)) ≤ x * m
 
 entry : (n m : ℕ) (f : ℕ → ℤ) → ((k : ℕ) → natAbs (f k) ≤ m) → (k : ℕ) → k < n → natAbs (getD (table n f) k (pos 0)) ≤ m * 1
 entry n m f h k l = let t = h k in rw (table-at n f k (pos 0) l) (omega tests)
 
-share-sized : (w : Window) (rates : List ℕ) (c : Claim) → Accepted rates c → Sized 1 (shareOf w rates c)
-unfolding shareOf recordSums
-share-sized w rates c ok =
-    let b = w .first .0 in
-    let e = w .last .0 in
+pub records-sized : (m : ℕ) (recovery death : ℕ → ℤ) → ((d : ℕ) → natAbs (recovery d) ≤ m) → ((d : ℕ) → natAbs (death d) ≤ m) → (c : Claim) → Sound c → (b e : ℕ)
+    → Sized (m * 30 * 1800) 1 (recordSums recovery death (monthRecords c b e))
+unfolding recordSums
+records-sized m recovery death p q c ok b e =
     record {
       thirtieths = entry 5 54000 _ (λ k. exposure-size c b e (k + 1));
-      closings = λ k l. rw (table-at 25 (λ k. closingCount (k / 5 + 1) (k % 5 + 1) (monthRecords c b e)) k 0 l) (closing-one rates c ok b e (k / 5 + 1) (k % 5 + 1));
-      recoveries =
-          entry 5 54000000000 _ (λ k. expected-size (recoveryRate rates (c .cell)) (λ d. recovery-bound rates (c .cell) d (accepted-rates rates c ok)) c b e (k + 1));
-      deaths = entry 5 54000000000 _ (λ k. expected-size (deathRate rates (c .cell)) (λ d. death-bound rates (c .cell) d (accepted-rates rates c ok)) c b e (k + 1));
+      closings = λ k l. rw (table-at 25 (λ k. closingCount (k / 5 + 1) (k % 5 + 1) (monthRecords c b e)) k 0 l) (closing-one c ok b e (k / 5 + 1) (k % 5 + 1));
+      recoveries = entry 5 (m * 30 * 1800) _ (λ k. expected-size m recovery p c b e (k + 1));
+      deaths = entry 5 (m * 30 * 1800) _ (λ k. expected-size m death q c b e (k + 1));
     }
 
-none-sized : Sized 0 none
+share-sized : (w : Window) (rates : List ℕ) (c : Claim) → Accepted rates c → Sized 54000000000 1 (shareOf w rates c)
+unfolding shareOf
+share-sized w rates c ok =
+    let passed = accepted-rates rates c ok in
+    records-sized 1000000 _ _ (λ d. recovery-bound rates (c .cell) d passed) (λ d. death-bound rates (c .cell) d passed) c (accepted-sound rates c ok) (w .first .0) (w .last .0)
+
+none-sized : Sized 54000000000 0 none
 unfolding none
 none-sized =
     let z : (k n : ℕ) → k < 5 → natAbs (getD (table 5 (λ g. pos 0)) k (pos 0)) ≤ n * 0 = λ k n l. rw (table-at 5 (λ g. pos 0) k (pos 0) l) (omega tests) in
@@ -105,9 +109,9 @@ none-sized =
       deaths = λ k l. z k 54000000000 l;
     }
 
-plus-sized : (m n : ℕ) (a b : Sums) → Sized m a → Sized n b → Sized (m + n) (plus a b)
+plus-sized : (x m n : ℕ) (a b : Sums) → Sized x m a → Sized x n b → Sized x (m + n) (plus a b)
 unfolding each
-plus-sized m n a b p q =
+plus-sized x m n a b p q =
     let z : (u : ℕ) (xs ys : List ℤ) → ((k : ℕ) → k < 5 → natAbs (getD xs k (pos 0)) ≤ u * m) → ((k : ℕ) → k < 5 → natAbs (getD ys k (pos 0)) ≤ u * n)
     → (k : ℕ) → k < 5 → natAbs (getD (signedEach _+ℤ_ xs ys) k (pos 0)) ≤ u * (m + n) =
     λ u xs ys f g k l.
@@ -118,30 +122,31 @@ plus-sized m n a b p q =
     record {
       thirtieths = z 54000 _ _ (p .thirtieths) (q .thirtieths);
       closings = λ k l. let x = p .closings k l in let y = q .closings k l in rw (count-at _+_ (a .closings) (b .closings) k l) (omega tests);
-      recoveries = z 54000000000 _ _ (p .recoveries) (q .recoveries);
-      deaths = z 54000000000 _ _ (p .deaths) (q .deaths);
+      recoveries = z x _ _ (p .recoveries) (q .recoveries);
+      deaths = z x _ _ (p .deaths) (q .deaths);
     }
 
-pub sums-sized : (w : Window) (rates : List ℕ) (cs : List Claim) → All (Accepted rates) cs → Sized (length cs) (sumOver plus none (shareOf w rates) cs)
+pub sums-sized : (w : Window) (rates : List ℕ) (cs : List Claim) → All (Accepted rates) cs → Sized 54000000000 (length cs) (sumOver plus none (shareOf w rates) cs)
 unfolding sumOver
 sums-sized w rates [] a = none-sized
 sums-sized w rates (c ∷ cs) a =
     let e : 1 + length cs ≡ suc (length cs) = omega tests in
-    subst (λ (m : ℕ). Sized m (plus (shareOf w rates c) (sumOver plus none (shareOf w rates) cs))) e
-    (plus-sized 1 (length cs) _ _ (share-sized w rates c (a .0)) (sums-sized w rates cs (a .1)))
+    subst (λ (m : ℕ). Sized 54000000000 m (plus (shareOf w rates c) (sumOver plus none (shareOf w rates) cs))) e
+    (plus-sized 54000000000 1 (length cs) _ _ (share-sized w rates c (a .0)) (sums-sized w rates cs (a .1)))
 
 -- what is sized for 500,000 claims is within the bounds of refusal 9
-sized-within : (m : ℕ) (s : Sums) → m ≤ 500000 → Shaped s → Sized m s → within 1 s ≡ true
-unfolding within
+sized-within : (m : ℕ) (s : Sums) → m ≤ 500000 → Shaped s → Sized 54000000000 m s → within 1 s ≡ true
 sized-within m s h q z =
     let f : (u n : ℕ) (xs : List ℤ) → u * 500000 ≤ n → length xs ≡ 5 → ((k : ℕ) → k < 5 → natAbs (getD xs k (pos 0)) ≤ u * m) → allWithin n xs ≡ true =
     λ u n xs un e g. within-list n xs (λ k l. let t = g k (omega (tests, e)) in let v = mul-le-mul-left u h in omega tests) in
-    all-four _ _ _ _ (f 54000 27000000000 _ (omega tests) (q .thirtieths) (z .thirtieths)) (f 54000000000 27000000000000000 _ (omega tests) (q .recoveries) (z .recoveries))
-    (f 54000000000 27000000000000000 _ (omega tests) (q .deaths) (z .deaths))
-    (at-most-list 500000 (s .closings) (λ k l. let t = z .closings k (omega (tests, q .closings)) in omega tests))
-  where
-    all-four : (a b c d : Bool) → a ≡ true → b ≡ true → c ≡ true → d ≡ true → (a && b && c && d) ≡ true
-    all-four a b c d p q r s = rw (p, q, r, s)
+    within-bounds s
+    ∙ so-bounded 27000000000 27000000000000000 500000 s
+    (record {
+      thirtieths = f 54000 27000000000 _ (omega tests) (q .thirtieths) (z .thirtieths);
+      recoveries = f 54000000000 27000000000000000 _ (omega tests) (q .recoveries) (z .recoveries);
+      deaths = f 54000000000 27000000000000000 _ (omega tests) (q .deaths) (z .deaths);
+      closings = at-most-list 500000 (s .closings) (λ k l. let t = z .closings k (omega (tests, q .closings)) in omega tests);
+    })
 
 pub share-shaped : (w : Window) (rates : List ℕ) (c : Claim) → Shaped (shareOf w rates c)
 unfolding shareOf recordSums
@@ -155,30 +160,3 @@ pub room : (w : Window) (rates : List ℕ) (cs : List Claim) → All (Accepted r
 unfolding hasRoom studyOf
 room w rates cs a h =
     rw (lt-ltb (length cs) 500000 h, sized-within (length cs) _ (omega tests) (sums-shaped w rates cs) (sums-sized w rates cs a))
-
--- what check 9 passing says
-pub record HasRoom (s : Study) : Type 0 where
-  pub taken : s .taken < 500000
-  pub thirtieths : allWithin 27000000000 (s .sums .thirtieths) ≡ true
-  pub recoveries : allWithin 27000000000000000 (s .sums .recoveries) ≡ true
-  pub deaths : allWithin 27000000000000000 (s .sums .deaths) ≡ true
-  pub closings : allAtMost 500000 (s .sums .closings) ≡ true
-
-pub has-room : (s : Study) → hasRoom s ≡ true → HasRoom s
-unfolding hasRoom within
-has-room s h =
-    let a = ltb (s .taken) 500000 in
-    let b = allWithin 27000000000 (s .sums .thirtieths) in
-    let c = allWithin 27000000000000000 (s .sums .recoveries) in
-    let d = allWithin 27000000000000000 (s .sums .deaths) in
-    let e = allAtMost 500000 (s .sums .closings) in
-    let w = and-right a (b && c && d && e) h in
-    let w3 = and-left (b && c && d) e w in
-    let w2 = and-left (b && c) d w3 in
-    record {
-      taken = ltb-true (s .taken) 500000 (and-left a (b && c && d && e) h);
-      thirtieths = and-left b c w2;
-      recoveries = and-right b c w2;
-      deaths = and-right (b && c) d w3;
-      closings = and-right (b && c && d) e w;
-    }

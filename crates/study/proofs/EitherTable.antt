@@ -1,15 +1,16 @@
 -- Adding with plain rates is document 01's, and adding with a prepared table is adding with the rates that were prepared.
 -- Assumes nothing.
-use Prim.Native.Nat.{ℕ, _+_, _<_}
+use Prim.Native.Nat.{ℕ, suc, _+_, _≤_, _<_}
 use mathlib.Core.Path.{_≡_, refl, sym, ap, ap₂, _∙_, fun-ext, subst⁻¹}
+use mathlib.Core.Bool.{Bool, true}
 use mathlib.Core.List.{List}
 use lib.Dec.{eqb}
 use lib.IntN.{ℤ, _+ℤ_}
 use borrow.Author.Tests.{eqb-true, ne-eqb}
 use Rattle.basics.specs.Pick.{pick}
 use Rattle.basics.specs.Checks.{_then_}
-use Rattle.basics.proofs.Tests.{tests, by}
-use Rattle.basics.proofs.Checks.{then-passed, check-passed}
+use Rattle.basics.specs.Tables.{allAtMost}
+use Rattle.basics.proofs.Tests.{by}
 use Rattle.claim_months.specs.declared.Claim.{Claim}
 use Rattle.claim_months.specs.Claim.{claimCheck}
 use Rattle.claim_months.specs.Exposure.{monthRecords}
@@ -21,13 +22,13 @@ use Rattle.rates.proofs.PreparedTables.{same-table}
 use Rattle.study.specs.declared.Study.{Study}
 use Rattle.study.specs.declared.Sums.{Sums}
 use Rattle.study.specs.declared.Answer.{Answer}
-use Rattle.study.specs.Sums.{plus}
-use Rattle.study.specs.Study.{recordSums, shareOf, hasRoom, roomCheck, addCheck, withClaim, added}
-use Rattle.study.specs.PreparedAdding.{shareWith, addCheckWith, addedWith, SameAdding, lentStudy, addedTo}
+use Rattle.study.specs.Sums.{plus, within}
+use Rattle.study.specs.Study.{recordSums, shareOf, roomCheck, addCheck, withClaim, added}
+use Rattle.study.specs.PreparedAdding.{shareWith, addCheckWith, addedWith, SameAdding, lentStudy, roomFor, addedToLent}
 use Rattle.study.proofs.Algebra.{Shaped, each-shaped}
-use Rattle.study.proofs.Capacity.{has-room}
 use Rattle.study.proofs.WithSpan.{answer}
 use Rattle.study.proofs.SpanAdds.{is-shaped}
+use Rattle.study.proofs.LentSums.{taken-passed, lent-adding}
 
 plain-added : (s : Study) (c : Claim) (rates : List ℕ) → addedWith Plain s c rates ≡ added s c rates
 unfolding addedWith addCheckWith shareWith added addCheck withClaim shareOf checkOf recoveryOf deathOf
@@ -38,14 +39,6 @@ module _ (s : Study) (c : Claim) (rates : List ℕ) where
   unfolding addCheckWith
   prepared-number =
       ap (λ (n : ℕ). windowCheck (s .window .first .0) (s .window .last .0) then claimCheck c then n then roomCheck s) (same-table rates .same-check (c .cell))
-
-  -- a claim that is taken passes the checks of the table
-  passed : addCheckWith Plain s c rates ≡ 0 → checkOf Plain rates (c .cell) ≡ 0
-  unfolding addCheckWith
-  passed e =
-      let w = then-passed (windowCheck (s .window .first .0) (s .window .last .0)) _ e in
-      let k = then-passed (claimCheck c) _ (w .1) in
-      then-passed (checkOf Plain rates (c .cell)) (roomCheck s) (k .1) .0
 
   prepared-share : checkOf Plain rates (c .cell) ≡ 0 → shareWith Prepared (s .window) (preparedOf rates) c ≡ shareWith Plain (s .window) rates c
   unfolding shareWith
@@ -65,19 +58,19 @@ module _ (s : Study) (c : Claim) (rates : List ℕ) where
       let after : Sums = shareWith Plain (s .window) rates c in
       rw prepared-number
       (by (eqb n 0) (λ t. answer n (pick t (one-more before) s) ≡ answer n (pick t (one-more after) s))
-      (λ q. ap (λ (x : Sums). answer n (one-more x)) (prepared-share (passed (eqb-true n 0 q)))) (λ q. refl))
+      (λ q. ap (λ (x : Sums). answer n (one-more x)) (prepared-share (taken-passed Plain s c rates (eqb-true n 0 q) .rates))) (λ q. refl))
 
 pub same-adding : SameAdding
 same-adding = record { plain = plain-added; prepared = λ s c rates. prepared-added s c rates ∙ plain-added s c rates }
 
--- the answer of adding to lent sums, as that of adding to a study
-module _ (kind : Kind) (s : Study) (c : Claim) (rates : List ℕ) (z : Shaped (s .sums)) (n : ℕ) (t : Sums) (p : n ≡ addedTo kind rates c s .refused)
-    (q : t ≡ addedTo kind rates c s .study .sums) where
-  whole : addedTo kind rates c s ≡ addedWith kind s c rates
-  unfolding addedTo
-  whole = rw (is-shaped (s .sums) z)
+-- the answer of adding to lent sums, told what is so of them, as that of adding to a study
+module _ (kind : Kind) (s : Study) (c : Claim) (rates : List ℕ) (z : Shaped (s .sums)) (room : Bool) (so : room ≡ within 1 (s .sums)) (n : ℕ) (t : Sums)
+    (p : n ≡ addedToLent room kind rates c s .refused) (q : t ≡ addedToLent room kind rates c s .study .sums) where
+  whole : addedToLent room kind rates c s ≡ addedWith kind s c rates
+  whole = lent-adding .told kind rates c s room (is-shaped (s .sums) z) so
 
-  number : n ≡ addedWith kind s c rates .refused
+  number : n ≡ addCheckWith kind s c rates
+  unfolding addedWith
   number = p ∙ ap (λ (a : Answer). a .refused) whole
 
   sums-are : t ≡ addedWith kind s c rates .study .sums
@@ -101,12 +94,11 @@ module _ (kind : Kind) (s : Study) (c : Claim) (rates : List ℕ) (z : Shaped (s
 
   -- a claim is taken only where there is room
   pub lent-room : n ≡ 0 → s .taken < 500000
-  unfolding addedWith addCheckWith roomCheck
-  lent-room h =
-      let w = then-passed (windowCheck (s .window .first .0) (s .window .last .0)) _ (sym number ∙ h) in
-      let k = then-passed (claimCheck c) _ (w .1) in
-      let r = then-passed (checkOf kind rates (c .cell)) (roomCheck s) (k .1) in
-      has-room s (check-passed (hasRoom s) 9 (omega tests) (r .1)) .taken
+  lent-room h = taken-passed kind s c rates (sym number ∙ h) .few
+
+  -- room for one claim more before is room for that many after
+  pub lent-spare : (k : ℕ) → suc k ≤ 100 → allAtMost 4294967295 rates ≡ true → roomFor (suc k) (s .sums) ≡ true → roomFor k t ≡ true
+  lent-spare k h small r = rw sums-are (lent-adding .room-kept kind rates c s k (is-shaped (s .sums) z) h small r)
 
   -- the lists keep their lengths
   pub lent-shaped : Shaped t

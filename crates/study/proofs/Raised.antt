@@ -1,47 +1,70 @@
--- A span's share, band by band: none, one more, and its size.
+-- A span's share, band by band: none, and one more. Each group's sum is raised once, by the one band in that group.
 -- Assumes nothing.
-use Prim.Native.Nat.{ℕ, suc, _+_, _-_, _*_, _≤_, _<_, min}
+use Prim.Native.Nat.{ℕ, zero, suc, _+_, _-_, _≤_, _<_}
 use mathlib.Core.Path.{_≡_, refl, sym, ap, ap₂, _∙_}
 use mathlib.Core.Logic.{_≢_}
-use mathlib.Core.Bool.{Bool, true, false}
 use mathlib.Core.List.{List}
 use lib.ListN.{length, getD, set, length-set}
 use lib.Seq.{getD-set-same, getD-set-other}
-use lib.Dec.{eqb}
-use lib.IntN.{ℤ, pos, natAbs, _+ℤ_, +ℤ-assoc, +ℤ-idr}
-use borrow.Author.Tests.{eq-eqb, ne-eqb}
+use native.Mathlib.Nat.{add-zero}
+use lib.Dec.{ltb, eqb}
+use lib.IntN.{ℤ, pos, _+ℤ_, +ℤ-idl, +ℤ-idr}
+use borrow.Author.Tests.{ne-eqb}
 use Rattle.basics.specs.Pick.{pick}
 use Rattle.basics.specs.Series.{sumTo}
-use Rattle.basics.specs.Tables.{table, allWithin}
 use Rattle.basics.proofs.Tests.{tests, by}
-use Rattle.basics.proofs.Integers.{size-sum}
-use Rattle.basics.proofs.Tables.{table-at, within-list, within-at}
+use Rattle.basics.proofs.Tables.{table-at}
 use Rattle.claim_months.specs.declared.Span.{Span}
 use Rattle.claim_months.specs.Span.{spanU, spanB, spanWeighted, bandSum, spanBand, SpanBounds}
 use Rattle.claim_months.proofs.Bands.{band-same, band-none, band-adds}
-use Rattle.rates.specs.Rates.{groupOf, groupLast}
-use Rattle.rates.proofs.Laws.{group-low, group-high, group-same, last-from}
+use Rattle.rates.specs.Rates.{groupOf}
+use Rattle.rates.proofs.Laws.{group-low, group-high, group-same, group-next, last-from}
 use Rattle.study.specs.Sums.{signedEach}
 use Rattle.study.specs.Study.{groupWeight}
+use Rattle.study.specs.PreparedAdding.{guardedSum}
 use Rattle.study.specs.Private.{groupMonths, monthSums}
+use Rattle.study.proofs.Bounds.{sum-none}
 use Rattle.study.proofs.Algebra.{signed-at, signed-is, signed-length}
 
 -- sums to which the first n months of a span were added, each counted with a weight
-pub record Raised (old new : List ℤ) (w : ℕ → ℤ) (sp : Span) (n : ℕ) : Type 0 where
-  pub is : new ≡ signedEach _+ℤ_ old (monthSums w sp n)
-  pub size : allWithin (27000000000000000 + 400000000000 * n) new ≡ true
+abbrev pub Raised : List ℤ → List ℤ → (ℕ → ℤ) → Span → ℕ → Type 0
+Raised old new w sp n = new ≡ signedEach guardedSum old (monthSums w sp n)
+
+-- the months before month n are in earlier groups than that month
+abbrev pub Before : Span → ℕ → Type 0
+Before sp n = n < sp .months → (j : ℕ) → j < n → groupOf (sp .first .0 + j) < groupOf (sp .first .0 + n)
+
+pub before-none : (sp : Span) → Before sp 0
+before-none sp _ j h = absurd (omega tests)
 
 months-at : (w : ℕ → ℤ) (sp : Span) (n k : ℕ) → k < 5 → getD (monthSums w sp n) k (pos 0) ≡ spanWeighted (groupWeight (k + 1) w) sp n
 unfolding monthSums
 months-at w sp n k h = table-at 5 _ k (pos 0) h
 
-pub raised-none : (old : List ℤ) (w : ℕ → ℤ) (sp : Span) → length old ≡ 5 → allWithin 27000000000000000 old ≡ true → Raised old old w sp 0
+pub raised-none : (old : List ℤ) (w : ℕ → ℤ) (sp : Span) → length old ≡ 5 → Raised old old w sp 0
 unfolding spanWeighted sumTo
-raised-none old w sp l h =
-    record {
-      is = signed-is _+ℤ_ old (monthSums w sp 0) old l (λ k q. sym (ap (λ (z : ℤ). getD old k (pos 0) +ℤ z) (months-at w sp 0 k q) ∙ +ℤ-idr (getD old k (pos 0))));
-      size = h;
-    }
+raised-none old w sp l =
+    signed-is guardedSum old (monthSums w sp 0) old l (λ k q. sym (ap (guardedSum (getD old k (pos 0))) (months-at w sp 0 k q) ∙ sum-none (getD old k (pos 0))))
+
+-- a list keeps its length
+pub raised-length : (old l : List ℤ) (w : ℕ → ℤ) (sp : Span) (n : ℕ) → Raised old l w sp n → length l ≡ 5
+raised-length old l w sp n r = ap length r ∙ signed-length guardedSum old (monthSums w sp n)
+
+-- months without a weight have no sum
+weighted-none : (w : ℕ → ℤ) (sp : Span) → spanWeighted w sp 0 ≡ pos 0
+unfolding spanWeighted sumTo
+weighted-none w sp = refl
+
+band-zero : (w : ℕ → ℤ) (sp : Span) (n : ℕ) → ((j : ℕ) → j < suc n → w (sp .first .0 + j) ≡ pos 0) → spanBand w sp 0 (suc n) ≡ pos 0
+unfolding spanBand
+band-zero w sp n q =
+    band-same w (λ d. pos 0) (sp .first .0 + 0) (suc n) _ _ (omega tests) (λ j l. rw (add-zero (sp .first .0)) (q j l)) ∙ band-none (sp .first .0 + 0) (suc n) _ _
+
+no-weight : (w : ℕ → ℤ) (sp : Span) → SpanBounds sp → (n : ℕ) → n ≤ sp .months → ((j : ℕ) → j < n → w (sp .first .0 + j) ≡ pos 0) → spanWeighted w sp n ≡ pos 0
+no-weight w sp bounds zero h q = weighted-none w sp
+no-weight w sp bounds (suc n) h q =
+    let e : 0 + suc n ≡ suc n = omega tests in
+    rw e at (band-adds w sp bounds 0 n (omega tests)) ∙ ap₂ _+ℤ_ (weighted-none w sp) (band-zero w sp n q)
 
 module _ (w : ℕ → ℤ) (sp : Span) (bounds : SpanBounds sp) (a : ℕ) (h : a < sp .months) where
   abbrev first : ℕ
@@ -79,73 +102,66 @@ module _ (w : ℕ → ℤ) (sp : Span) (bounds : SpanBounds sp) (a : ℕ) (h : a
       rw e at (band-adds (groupWeight g w) sp bounds a (months - 1) (omega (tests, months-low, months-high)))
       ∙ ap (λ (z : ℤ). spanWeighted (groupWeight g w) sp a +ℤ z) (band-in g)
 
-  -- one band more: its group's sum takes it, and no other takes anything
-  module _ (old l : List ℤ) (r : Raised old l w sp a) (p : ℕ) (x : ℤ) (hp : p ≡ groupOf first - 1) (hx : x ≡ spanBand w sp a months)
-      (small : natAbs x ≤ 400000000000 * months) where
-    abbrev v : ℤ
-    v = getD l p (pos 0) +ℤ x
+  -- no month before the band is in its group
+  group-none : (g : ℕ) → Before sp a → groupOf first ≡ g → spanWeighted (groupWeight g w) sp a ≡ pos 0
+  unfolding groupWeight
+  group-none g q e =
+      no-weight (groupWeight g w) sp bounds a (omega tests)
+      (λ j l. rw (ne-eqb (groupOf (sp .first .0 + j)) g (λ (z : groupOf (sp .first .0 + j) ≡ g). omega (tests, q h j l))))
 
-    long : length l ≡ 5
-    long = ap length (r .is) ∙ signed-length _+ℤ_ old (monthSums w sp a)
+  pub before-more : Before sp a → Before sp (a + months)
+  unfolding groupMonths
+  before-more q l j m =
+      let next : groupOf first < groupOf (sp .first .0 + (a + months)) =
+      group-next first (sp .first .0 + (a + months)) (omega tests) (omega (tests, bounds .first-high, bounds .months-high)) in
+      by (ltb j a) (λ _. groupOf (sp .first .0 + j) < groupOf (sp .first .0 + (a + months)))
+      (λ t. let before = q h j (omega tests) in omega tests)
+      (λ t.
+      let e : first + (j - a) ≡ sp .first .0 + j = omega tests in
+      let same = rw e at (months-group (j - a) (omega tests)) in
+      omega tests)
+
+  -- one band more: its group's sum takes it, and no other takes anything
+  module _ (fresh : Before sp a) (old l : List ℤ) (r : Raised old l w sp a) (p : ℕ) (x : ℤ) (hp : p ≡ groupOf first - 1) (hx : x ≡ spanBand w sp a months) where
+    abbrev v : ℤ
+    v = guardedSum (getD l p (pos 0)) x
 
     below : p < 5
     below = omega (tests, group-low first, group-high first)
 
-    entry : (k : ℕ) → k < 5 → getD l k (pos 0) ≡ getD old k (pos 0) +ℤ spanWeighted (groupWeight (k + 1) w) sp a
+    entry : (k : ℕ) → k < 5 → getD l k (pos 0) ≡ guardedSum (getD old k (pos 0)) (spanWeighted (groupWeight (k + 1) w) sp a)
     entry k q =
-        ap (λ (m : List ℤ). getD m k (pos 0)) (r .is) ∙ signed-at _+ℤ_ old (monthSums w sp a) k q
-        ∙ ap (λ (z : ℤ). getD old k (pos 0) +ℤ z) (months-at w sp a k q)
+        ap (λ (m : List ℤ). getD m k (pos 0)) r ∙ signed-at guardedSum old (monthSums w sp a) k q ∙ ap (guardedSum (getD old k (pos 0))) (months-at w sp a k q)
 
-    place : (k : ℕ) → k < 5 → getD (set l p v) k (pos 0) ≡ getD l k (pos 0) +ℤ pick (eqb (groupOf first) (k + 1)) x (pos 0)
-    place k q =
-        by (eqb (groupOf first) (k + 1)) (λ t. getD (set l p v) k (pos 0) ≡ getD l k (pos 0) +ℤ pick t x (pos 0))
-        (λ y.
-        let same : k ≡ p = omega tests in
-        rw same (getD-set-same l p v (pos 0) (omega (tests, long, below))))
-        (λ y.
-        let other : k ≢ p = λ (z : k ≡ p). omega (tests, group-low first) in
-        getD-set-other l p k v (pos 0) other ∙ sym (+ℤ-idr (getD l k (pos 0))))
-
-    value : (k : ℕ) → k < 5 → getD (set l p v) k (pos 0) ≡ getD old k (pos 0) +ℤ getD (monthSums w sp (a + months)) k (pos 0)
+    -- the band's own place, which no month has raised before, and any other
+    value : (k : ℕ) → k < 5 → getD (set l p v) k (pos 0) ≡ guardedSum (getD old k (pos 0)) (spanWeighted (groupWeight (k + 1) w) sp a +ℤ pick (eqb (groupOf first) (k + 1)) x (pos 0))
     value k q =
         let o = getD old k (pos 0) in
-        let s = spanWeighted (groupWeight (k + 1) w) sp a in
-        let y = pick (eqb (groupOf first) (k + 1)) x (pos 0) in
-        place k q ∙ ap (λ (z : ℤ). z +ℤ y) (entry k q) ∙ +ℤ-assoc o s y
-        ∙ ap (λ (z : ℤ). o +ℤ z)
-        (rw hx (sym (band-more (k + 1))) ∙ sym (months-at w sp (a + months) k q))
-
-    within : (k : ℕ) → k < length (set l p v) → natAbs (getD (set l p v) k (pos 0)) ≤ 27000000000000000 + 400000000000 * (a + months)
-    within k q =
-        let n : k < 5 = omega (tests, long, length-set l p v) in
-        let s = within-at (27000000000000000 + 400000000000 * a) l k (r .size) in
-        rw (place k n)
-        (by (eqb (groupOf first) (k + 1)) (λ t. natAbs (getD l k (pos 0) +ℤ pick t x (pos 0)) ≤ 27000000000000000 + 400000000000 * (a + months))
-        (λ y. omega (tests, size-sum (getD l k (pos 0)) x)) (λ y. omega (tests, size-sum (getD l k (pos 0)) (pos 0))))
+        let w₀ = spanWeighted (groupWeight (k + 1) w) sp a in
+        by (eqb (groupOf first) (k + 1)) (λ t. getD (set l p v) k (pos 0) ≡ guardedSum o (w₀ +ℤ pick t x (pos 0)))
+        (λ y.
+        let same : k ≡ p = omega tests in
+        let none : w₀ ≡ pos 0 = group-none (k + 1) fresh (omega tests) in
+        let here : getD l k (pos 0) ≡ o = entry k q ∙ ap (guardedSum o) none ∙ sum-none o in
+        rw none
+        (ap (λ (m : ℕ). getD (set l p v) m (pos 0)) same ∙ getD-set-same l p v (pos 0) (omega (tests, raised-length old l w sp a r, below))
+        ∙ ap (λ (m : ℕ). guardedSum (getD l m (pos 0)) x) (sym same) ∙ ap (λ (z : ℤ). guardedSum z x) here ∙ ap (guardedSum o) (sym (+ℤ-idl x))))
+        (λ y.
+        let other : k ≢ p = λ (z : k ≡ p). omega (tests, group-low first) in
+        getD-set-other l p k v (pos 0) other ∙ entry k q ∙ ap (guardedSum o) (sym (+ℤ-idr w₀)))
 
     pub raised-more : Raised old (set l p v) w sp (a + months)
     raised-more =
-        record {
-          is = signed-is _+ℤ_ old (monthSums w sp (a + months)) (set l p v) (length-set l p v ∙ long) value;
-          size = within-list _ (set l p v) within;
-        }
-
--- a wider bound
-pub wider : (m n : ℕ) (l : List ℤ) → m ≤ n → allWithin m l ≡ true → allWithin n l ≡ true
-wider m n l h w = within-list n l (λ k q. let t = within-at m l k w in omega tests)
-
--- the lists can take one more band
-pub raised-fits : (old l : List ℤ) (w : ℕ → ℤ) (sp : Span) (a : ℕ) → Raised old l w sp a → a ≤ 1800 → (length l ≡ 5) × (allWithin 1000000000000000000 l ≡ true)
-raised-fits old l w sp a r h =
-    (ap length (r .is) ∙ signed-length _+ℤ_ old (monthSums w sp a), wider (27000000000000000 + 400000000000 * a) 1000000000000000000 l (omega tests) (r .size))
+        signed-is guardedSum old (monthSums w sp (a + months)) (set l p v) (length-set l p v ∙ raised-length old l w sp a r)
+        (λ k q. value k q ∙ ap (guardedSum (getD old k (pos 0))) (rw hx (sym (band-more (k + 1))) ∙ sym (months-at w sp (a + months) k q)))
 
 -- one band more, as the code has it: its months, its place and its amount
 module _ (w : ℕ → ℤ) (sp : Span) (bounds : SpanBounds sp) (a : ℕ) (h : a < sp .months) (n p b s : ℕ) (hn : n ≡ groupMonths sp a) (hp : p ≡ groupOf (sp .first .0 + a) - 1)
-    (hb : b ≡ spanB sp a) (hs : s ≡ 30 - spanU sp (a + (n - 1))) (old l l′ : List ℤ) (r : Raised old l w sp a) (x : ℤ)
-    (hx : x ≡ bandSum w (sp .first .0 + a) n b s) (small : natAbs x ≤ 400000000000 * n) (e : l′ ≡ set l p (getD l p (pos 0) +ℤ x)) where
+    (hb : b ≡ spanB sp a) (hs : s ≡ 30 - spanU sp (a + (n - 1))) (fresh : Before sp a) (old l l′ : List ℤ) (r : Raised old l w sp a) (x : ℤ)
+    (hx : x ≡ bandSum w (sp .first .0 + a) n b s) (e : l′ ≡ set l p (guardedSum (getD l p (pos 0)) x)) where
   amount : x ≡ spanBand w sp a (groupMonths sp a)
   unfolding spanBand
   amount = hx ∙ (λ i. bandSum w (sp .first .0 + a) n (hb i) (hs i)) ∙ ap (λ (m : ℕ). bandSum w (sp .first .0 + a) m (spanB sp a) (30 - spanU sp (a + (m - 1)))) hn
 
   pub raised-step : Raised old l′ w sp (a + n)
-  raised-step = rw (e, hn) (raised-more w sp bounds a h old l r p x hp amount (rw hn at small))
+  raised-step = rw (e, hn) (raised-more w sp bounds a h fresh old l r p x hp amount)

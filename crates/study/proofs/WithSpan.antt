@@ -2,7 +2,7 @@
 -- Assumes nothing.
 use Prim.Native.Nat.{ℕ, _+_, _*_, _/_, _%_, _≤_}
 use mathlib.Core.Path.{_≡_, refl, sym, ap, _∙_}
-use mathlib.Core.Bool.{true, false}
+use mathlib.Core.Bool.{Bool, true}
 use mathlib.Core.List.{List}
 use lib.Dec.{eqb}
 use lib.IntN.{ℤ, pos}
@@ -10,7 +10,7 @@ use borrow.Author.Tests.{ne-eqb}
 use Rattle.basics.specs.Pick.{pick}
 use Rattle.basics.specs.Checks.{_then_}
 use Rattle.basics.specs.Tables.{table}
-use Rattle.basics.proofs.Tests.{tests, by}
+use Rattle.basics.proofs.Tests.{by}
 use Rattle.basics.proofs.Checks.{then-next, then-fails, then-assoc}
 use Rattle.basics.proofs.Tables.{table-same}
 use Rattle.calendar.specs.Calendar.{lastDayNumber}
@@ -25,13 +25,12 @@ use Rattle.claim_months.proofs.Sound.{Sound}
 use Rattle.claim_months.proofs.Spans.{span-weighted, span-closings}
 use Rattle.claim_months.proofs.SpanAnswers.{exposure-checks, exposed, spanned, span-refused}
 use Rattle.rates.specs.declared.Kind.{Kind}
-use Rattle.rates.specs.Prepared.{checkOf, recoveryOf, deathOf}
+use Rattle.rates.specs.Prepared.{recoveryOf, deathOf}
 use Rattle.study.specs.declared.Study.{Study}
-use Rattle.study.specs.declared.Sums.{Sums}
 use Rattle.study.specs.declared.Answer.{Answer}
-use Rattle.study.specs.Sums.{plus}
-use Rattle.study.specs.Study.{inGroup, groupWeight, exposure, closingCount, expected, recordSums, hasRoom, roomCheck}
-use Rattle.study.specs.PreparedAdding.{shareWith, addCheckWith, addedWith}
+use Rattle.study.specs.Sums.{each}
+use Rattle.study.specs.Study.{inGroup, groupWeight, exposure, closingCount, expected, recordSums}
+use Rattle.study.specs.PreparedAdding.{shareWith, lentStudy, lentShape, guardedSum, guardedCount, addCheckTold, addedToLent}
 use Rattle.study.specs.Private.{monthSums, spanClosings, spanShare, spanNumber, spanSums}
 
 abbrev pub answer : ℕ → Study → Answer
@@ -55,29 +54,29 @@ module _ (c : Claim) (ok : Sound c) (b e : ℕ) (h : e ≤ lastDayNumber) where
         deaths = months-sums (deathOf kind rates (c .cell)) i;
       }
 
-module _ (kind : Kind) (s : Study) (c : Claim) (rates : List ℕ) where
+module _ (room : Bool) (kind : Kind) (s : Study) (c : Claim) (rates : List ℕ) (z : lentShape (s .sums) ≡ true) where
   abbrev own : ℕ
   own = exposureCheck c (s .window .first .0) (s .window .last .0)
 
   abbrev number : ℕ
-  number = spanNumber (s .taken) (s .sums) kind rates (c .cell)
+  number = spanNumber (s .taken) room kind rates (c .cell)
 
   -- the checks 1 to 5, then 6 to 9
-  checks : addCheckWith kind s c rates ≡ (own then number)
-  unfolding addCheckWith spanNumber roomCheck hasRoom
+  checks : addCheckTold room kind s c rates ≡ (own then number)
+  unfolding addCheckTold spanNumber
   checks =
       let b = s .window .first .0 in
       let e = s .window .last .0 in
       sym (ap (λ (n : ℕ). n then number) (exposure-checks c b e) ∙ then-assoc (windowCheck b e) (claimCheck c) number)
 
   -- adding a claim that passes the checks 1 to 5 is adding its span
-  pub spanned-number : (sp : Span) → Spanned sp ≡ spanIn c (s .window .first .0) (s .window .last .0) → addedWith kind s c rates .refused ≡ number
-  unfolding addedWith
-  spanned-number sp m = checks ∙ then-next own number (spanned c (s .window .first .0) (s .window .last .0) sp m .0)
+  pub spanned-number : (sp : Span) → Spanned sp ≡ spanIn c (s .window .first .0) (s .window .last .0) → addedToLent room kind rates c s .refused ≡ number
+  unfolding addedToLent
+  spanned-number sp m = rw z (checks ∙ then-next own number (spanned c (s .window .first .0) (s .window .last .0) sp m .0))
 
   pub spanned-sums : (sp : Span) → Spanned sp ≡ spanIn c (s .window .first .0) (s .window .last .0)
-      → addedWith kind s c rates .study .sums ≡ spanSums (s .taken) (s .sums) kind rates (c .cell) sp
-  unfolding addedWith spanSums shareWith
+      → addedToLent room kind rates c s .study .sums ≡ spanSums (s .taken) room (s .sums) kind rates (c .cell) sp
+  unfolding addedToLent spanSums shareWith
   spanned-sums sp m =
       let b = s .window .first .0 in
       let e = s .window .last .0 in
@@ -85,24 +84,23 @@ module _ (kind : Kind) (s : Study) (c : Claim) (rates : List ℕ) where
       let y = exposed c b e (x .0) in
       let share : spanShare kind rates (c .cell) sp ≡ shareWith kind (s .window) rates c =
       ap (spanShare kind rates (c .cell)) (x .1) ∙ span-share c (y .0) b e (y .1) kind rates in
-      rw (checks ∙ then-next own number (x .0), share)
-      (by (eqb number 0)
-      (λ t. pick t (record { window = s .window; taken = s .taken + 1; sums = plus (s .sums) (shareWith kind (s .window) rates c) }) s .sums
-      ≡ pick t (plus (s .sums) (shareWith kind (s .window) rates c)) (s .sums)) (λ q. refl) (λ q. refl))
+      let sums = each guardedSum guardedCount (s .sums) (shareWith kind (s .window) rates c) in
+      rw (z, checks ∙ then-next own number (x .0), share)
+      (by (eqb number 0) (λ t. pick t (lentStudy (s .window) (s .taken + 1) sums) s .sums ≡ pick t sums (s .sums)) (λ q. refl) (λ q. refl))
 
   -- a claim that fails one of the checks 1 to 5 is refused
   module _ (n : ℕ) (m : Refused n ≡ spanIn c (s .window .first .0) (s .window .last .0)) where
-    refused-is : addCheckWith kind s c rates ≡ n
+    refused-is : addCheckTold room kind s c rates ≡ n
     refused-is =
         let x = span-refused c (s .window .first .0) (s .window .last .0) n m in
         checks ∙ then-fails own number (x .0) ∙ sym (x .1)
 
-    pub refused-number : addedWith kind s c rates .refused ≡ n
-    unfolding addedWith
-    refused-number = refused-is
+    pub refused-number : addedToLent room kind rates c s .refused ≡ n
+    unfolding addedToLent
+    refused-number = rw z refused-is
 
-    pub refused-sums : addedWith kind s c rates .study .sums ≡ s .sums
-    unfolding addedWith
+    pub refused-sums : addedToLent room kind rates c s .study .sums ≡ s .sums
+    unfolding addedToLent
     refused-sums =
         let x = span-refused c (s .window .first .0) (s .window .last .0) n m in
-        rw (refused-is, ne-eqb n 0 (λ z. x .0 (sym (x .1) ∙ z)))
+        rw (z, refused-is, ne-eqb n 0 (λ z. x .0 (sym (x .1) ∙ z)))

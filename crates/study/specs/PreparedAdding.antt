@@ -1,14 +1,15 @@
 -- Adding with a rate table of either kind. With plain rates it is document 01's adding; with the prepared table of some rates it is adding
 -- with these rates, number for number.
-use Prim.Native.Nat.{ℕ, _+_}
+use Prim.Native.Nat.{ℕ, suc, _+_, _-_, _*_, _≤_}
 use mathlib.Core.Path.{_≡_}
-use mathlib.Core.Bool.{Bool, _&&_}
+use mathlib.Core.Bool.{Bool, true, _&&_}
 use mathlib.Core.List.{List}
 use lib.ListN.{length}
-use lib.Dec.{eqb}
-use lib.IntN.{ℤ}
+use lib.Dec.{leb, ltb, eqb}
+use lib.IntN.{ℤ, natAbs, _+ℤ_}
 use Rattle.basics.specs.Pick.{pick}
-use Rattle.basics.specs.Checks.{_then_}
+use Rattle.basics.specs.Checks.{check, _then_, refuse-full}
+use Rattle.basics.specs.Tables.{allWithin, allAtMost}
 use Rattle.claim_months.specs.declared.Claim.{Claim}
 use Rattle.claim_months.specs.declared.Window.{Window}
 use Rattle.claim_months.specs.Claim.{claimCheck}
@@ -20,7 +21,7 @@ use Rattle.rates.specs.Prepared.{checkOf, recoveryOf, deathOf, preparedOf}
 use Rattle.study.specs.declared.Sums.{Sums}
 use Rattle.study.specs.declared.Study.{Study}
 use Rattle.study.specs.declared.Answer.{Answer}
-use Rattle.study.specs.Sums.{plus}
+use Rattle.study.specs.Sums.{plus, each, within}
 use Rattle.study.specs.Study.{recordSums, roomCheck, added}
 
 -- a claim's share of a study, with the table's rates of its cell
@@ -64,6 +65,51 @@ unfoldable pub lentShape : Sums → Bool
 lentShape s =
     eqb (length (s .thirtieths)) 5 && eqb (length (s .closings)) 25 && eqb (length (s .recoveries)) 5 && eqb (length (s .deaths)) 5
 
--- adding to a study whose sums are lent: 255 where a list has not its length
-unfoldable pub addedTo : Kind → List ℕ → Claim → Study → Answer
-addedTo kind table c s = pick (lentShape (s .sums)) (addedWith kind s c table) (record { refused = 255; study = s })
+-- Room for n claims more, whatever their shares: n claims take no sum past its bound. A claim has at most 1,800 months of 30 thirtieths, of
+-- rates below 2³² in any list of 32-bit numbers, and one closing. Room for none is check 9's
+unfoldable pub roomFor : ℕ → Sums → Bool
+roomFor n s =
+    allWithin (27000000000 - 54000 * n) (s .thirtieths) && allWithin (27000000000000000 - 240000000000000 * n) (s .recoveries)
+    && allWithin (27000000000000000 - 240000000000000 * n) (s .deaths) && allAtMost (500000 - n) (s .closings)
+
+-- an amount added to a sum or a count; one past every bound of refusal 9, which no study with room has, stays as it is
+unfoldable pub guardedSum : ℤ → ℤ → ℤ
+guardedSum x y = pick (leb (natAbs x) 27000000000000000) (x +ℤ y) x
+
+unfoldable pub guardedCount : ℕ → ℕ → ℕ
+guardedCount x y = pick (leb x 500000) (x + y) x
+
+-- the checks 1 to 9, told whether the sums are within their bounds
+unfoldable pub addCheckTold : Bool → Kind → Study → Claim → List ℕ → ℕ
+addCheckTold room kind s c table =
+    windowCheck (s .window .first .0) (s .window .last .0)
+    then claimCheck c
+    then checkOf kind table (c .cell)
+    then check (ltb (s .taken) 500000 && room) refuse-full
+
+-- adding to a study whose sums are lent, told whether they are within their bounds: 255 where a list has not its length
+unfoldable pub addedToLent : Bool → Kind → List ℕ → Claim → Study → Answer
+addedToLent room kind table c s =
+    pick (lentShape (s .sums))
+    (record {
+      refused = addCheckTold room kind s c table;
+      study =
+          pick (eqb (addCheckTold room kind s c table) 0)
+          (record {
+            window = s .window;
+            taken = s .taken + 1;
+            sums = each guardedSum guardedCount (s .sums) (shareWith kind (s .window) table c);
+          })
+          s;
+    })
+    (record { refused = 255; study = s })
+
+-- Told what is so, it is adding. Sums with room for a claim are within their bounds, and with room for one claim more before an addition with a
+-- table of 32-bit numbers they have room for that many after it. `proofs/LentSums.antt` proves it
+pub record LentAdding : Type 0 where
+  pub told : (kind : Kind) (table : List ℕ) (c : Claim) (s : Study) (room : Bool) → lentShape (s .sums) ≡ true → room ≡ within 1 (s .sums)
+      → addedToLent room kind table c s ≡ addedWith kind s c table
+  pub room-none : (s : Sums) → roomFor 0 s ≡ within 1 s
+  pub room-less : (n : ℕ) (s : Sums) → n ≤ 100 → roomFor n s ≡ true → within 1 s ≡ true
+  pub room-kept : (kind : Kind) (table : List ℕ) (c : Claim) (s : Study) (n : ℕ) → lentShape (s .sums) ≡ true → suc n ≤ 100 → allAtMost 4294967295 table ≡ true
+      → roomFor (suc n) (s .sums) ≡ true → roomFor n (addedWith kind s c table .study .sums) ≡ true

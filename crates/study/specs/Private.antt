@@ -1,20 +1,21 @@
 -- What the private functions of this layer answer: a span's share, band by band.
 use Prim.Native.Nat.{ℕ, _+_, _-_, _*_, _/_, _%_, min}
-use mathlib.Core.Bool.{_&&_}
+use mathlib.Core.Bool.{Bool, _&&_}
 use mathlib.Core.List.{List}
 use lib.Dec.{ltb, eqb}
 use lib.IntN.{ℤ, pos}
 use Rattle.basics.specs.Pick.{pick}
 use Rattle.basics.specs.Checks.{check, _then_, refuse-full}
-use Rattle.basics.specs.Tables.{table}
+use Rattle.basics.specs.Tables.{table, allWithin, allAtMost}
 use Rattle.claim_months.specs.declared.Span.{Span}
 use Rattle.claim_months.specs.Span.{spanWeighted, spanClosing}
 use Rattle.rates.specs.declared.Kind.{Kind}
 use Rattle.rates.specs.Rates.{groupLast}
 use Rattle.rates.specs.Prepared.{checkOf, recoveryOf, deathOf}
 use Rattle.study.specs.declared.Sums.{Sums}
-use Rattle.study.specs.Sums.{plus, within}
+use Rattle.study.specs.Sums.{each}
 use Rattle.study.specs.Study.{inGroup, groupWeight}
+use Rattle.study.specs.PreparedAdding.{guardedSum, guardedCount}
 
 -- how many months of a span, from month a on, are in its duration's group
 unfoldable pub groupMonths : Span → ℕ → ℕ
@@ -38,9 +39,16 @@ spanShare kind rates cell sp =
       deaths = monthSums (deathOf kind rates cell) sp (sp .months);
     }
 
--- adding a sound claim's span to sums: the number of the first of the checks 6 to 9 that fails, or 0, and the sums afterwards
-unfoldable pub spanNumber : ℕ → Sums → Kind → List ℕ → ℕ → ℕ
-spanNumber taken s kind rates cell = checkOf kind rates cell then check (ltb taken 500000 && within 1 s) refuse-full
+-- adding a sound claim's span to sums, told whether they are within their bounds: the number of the first of the checks 6 to 9 that fails, or 0,
+-- and the sums afterwards
+unfoldable pub spanNumber : ℕ → Bool → Kind → List ℕ → ℕ → ℕ
+spanNumber taken room kind rates cell = checkOf kind rates cell then check (ltb taken 500000 && room) refuse-full
 
-unfoldable pub spanSums : ℕ → Sums → Kind → List ℕ → ℕ → Span → Sums
-spanSums taken s kind rates cell sp = pick (eqb (spanNumber taken s kind rates cell) 0) (plus s (spanShare kind rates cell sp)) s
+unfoldable pub spanSums : ℕ → Bool → Sums → Kind → List ℕ → ℕ → Span → Sums
+spanSums taken room s kind rates cell sp =
+    pick (eqb (spanNumber taken room kind rates cell) 0) (each guardedSum guardedCount s (spanShare kind rates cell sp)) s
+
+-- whether sums are within bounds, one for thirtieths, one for expected sums and one for counts
+unfoldable pub bounded : ℕ → ℕ → ℕ → Sums → Bool
+bounded exposure expected count s =
+    allWithin exposure (s .thirtieths) && allWithin expected (s .recoveries) && allWithin expected (s .deaths) && allAtMost count (s .closings)

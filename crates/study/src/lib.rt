@@ -4,11 +4,11 @@ ghost use mathlib.Core.Bool.{true};
 ghost use denote.Ref.{now};
 ghost use Rattle.claim_months.specs.Span.{SpanBounds};
 ghost use Rattle.study.specs.Study.{fresh, opened, added};
-ghost use Rattle.study.specs.PreparedAdding.{lentSums, lentStudy, lentShape, addedTo};
+ghost use Rattle.study.specs.PreparedAdding.{lentSums, lentStudy, lentShape, addedToLent};
 ghost use Rattle.study.specs.Private.{spanNumber, spanSums};
 
 mod group_figures;
-mod room;
+pub mod room;
 mod share;
 mod sums_algebra;
 
@@ -67,13 +67,14 @@ fn fresh_study(window: Window) -> Study
     }
 }
 
-// The checks 6 to 9, and the share of a sound claim's span added to the lent sums.
+// The checks 6 to 9, told whether the lent sums are within their bounds, and the share of a sound claim's span added to them.
 fn add_span(
     kind: Kind,
     table: &[u32],
     cell: u32,
     span: Span,
     taken: u32,
+    room: bool,
     thirtieths: &mut [i64],
     closings: &mut [u32],
     recoveries: &mut [i64],
@@ -81,35 +82,40 @@ fn add_span(
 ) -> u8
     requires { ⌜ SpanBounds span ⌝ }
     requires { ⌜ lentShape (lentSums (now thirtieths) (now closings) (now recoveries) (now deaths)) ≡ true ⌝ }
-    ensures { λ r. ⌜ r ≡ spanNumber taken (lentSums (now (thirtieths .entry)) (now (closings .entry)) (now (recoveries .entry)) (now (deaths .entry))) kind (now (table .entry)) cell ⌝ }
-    ensures { λ r. ⌜ lentSums (now (thirtieths .exit)) (now (closings .exit)) (now (recoveries .exit)) (now (deaths .exit)) ≡ spanSums taken (lentSums (now (thirtieths .entry)) (now (closings .entry)) (now (recoveries .entry)) (now (deaths .entry))) kind (now (table .entry)) cell span ⌝ }
+    ensures { λ r. ⌜ r ≡ spanNumber taken room kind (now (table .entry)) cell ⌝ }
+    ensures { λ r. ⌜ lentSums (now (thirtieths .exit)) (now (closings .exit)) (now (recoveries .exit)) (now (deaths .exit)) ≡ spanSums taken room (lentSums (now (thirtieths .entry)) (now (closings .entry)) (now (recoveries .entry)) (now (deaths .entry))) kind (now (table .entry)) cell span ⌝ }
 {
     let number = rates::prepared::check_of(kind, table, cell);
     if number != 0 {
         return number;
     }
-    if !has_room(taken, thirtieths, closings, recoveries, deaths) {
+    if taken >= 500000 {
         return refusal::FULL;
     }
-    add_months(kind, table, cell, span, thirtieths, recoveries, deaths);
-    add_closing(span, closings);
-    0
+    if room {
+        add_months(kind, table, cell, span, thirtieths, recoveries, deaths);
+        add_closing(span, closings);
+        return 0;
+    }
+    refusal::FULL
 }
 
-// Adds a claim to a study whose sums are lent: 0, or the number refused with the sums as they were; 255 if a list has not its length.
+// Adds a claim to a study whose sums are lent, told whether they are within the bounds of refusal 9: 0, or the number refused with the sums as they
+// were; 255 if a list has not its length.
 pub fn add_to(
     kind: Kind,
     table: &[u32],
     claim: Claim,
     window: Window,
     taken: u32,
+    room: bool,
     thirtieths: &mut [i64],
     closings: &mut [u32],
     recoveries: &mut [i64],
     deaths: &mut [i64],
 ) -> u8
-    ensures { λ r. ⌜ r ≡ addedTo kind (now (table .entry)) claim (lentStudy window taken (lentSums (now (thirtieths .entry)) (now (closings .entry)) (now (recoveries .entry)) (now (deaths .entry)))) .refused ⌝ }
-    ensures { λ r. ⌜ lentSums (now (thirtieths .exit)) (now (closings .exit)) (now (recoveries .exit)) (now (deaths .exit)) ≡ addedTo kind (now (table .entry)) claim (lentStudy window taken (lentSums (now (thirtieths .entry)) (now (closings .entry)) (now (recoveries .entry)) (now (deaths .entry)))) .study .sums ⌝ }
+    ensures { λ r. ⌜ r ≡ addedToLent room kind (now (table .entry)) claim (lentStudy window taken (lentSums (now (thirtieths .entry)) (now (closings .entry)) (now (recoveries .entry)) (now (deaths .entry)))) .refused ⌝ }
+    ensures { λ r. ⌜ lentSums (now (thirtieths .exit)) (now (closings .exit)) (now (recoveries .exit)) (now (deaths .exit)) ≡ addedToLent room kind (now (table .entry)) claim (lentStudy window taken (lentSums (now (thirtieths .entry)) (now (closings .entry)) (now (recoveries .entry)) (now (deaths .entry)))) .study .sums ⌝ }
 {
     if thirtieths.len() != 5 {
         return 255;
@@ -132,6 +138,7 @@ pub fn add_to(
                 cell,
                 span,
                 taken,
+                room,
                 thirtieths,
                 closings,
                 recoveries,
@@ -171,12 +178,14 @@ impl Study {
         let mut closings = sums.closings;
         let mut recoveries = sums.recoveries;
         let mut deaths = sums.deaths;
+        let room = has_room(&thirtieths, &closings, &recoveries, &deaths);
         let refused = add_to(
             Kind::Plain,
             rates,
             claim,
             window,
             self.taken,
+            room,
             &mut thirtieths,
             &mut closings,
             &mut recoveries,

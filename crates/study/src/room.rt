@@ -1,16 +1,16 @@
-// Check 9: whether a study has room for one more claim.
+// Check 9: whether sums are within their bounds, and whether more claims can't take them past.
 ghost use mathlib.Core.Path.{_≡_};
-ghost use mathlib.Core.Bool.{_&&_};
 ghost use Prim.Native.Nat.{_≤_};
-ghost use lib.Dec.{leb, ltb};
+ghost use lib.Dec.{leb};
 ghost use lib.IntN.{natAbs};
 ghost use denote.Ref.{now};
 ghost use Rattle.basics.specs.Tables.{allWithin, allAtMost};
 ghost use Rattle.study.specs.Sums.{within};
-ghost use Rattle.study.specs.PreparedAdding.{lentSums};
+ghost use Rattle.study.specs.PreparedAdding.{lentSums, roomFor};
+ghost use Rattle.study.specs.Private.{bounded};
 
 // Whether a number lies from −bound to bound.
-fn is_within(x: i64, bound: u64) -> bool
+pub(crate) fn is_within(x: i64, bound: u64) -> bool
     requires { ⌜ bound ≤ 27000000000000000 ⌝ }
     ensures { λ r. ⌜ r ≡ leb (natAbs x) bound ⌝ }
 {
@@ -35,39 +35,75 @@ fn all_within(sums: &[i64], bound: u64) -> bool
     true
 }
 
-// Whether no count is above 500,000.
-fn all_at_most(counts: &[u32]) -> bool
-    ensures { λ r. ⌜ r ≡ allAtMost 500000 (now (counts .entry)) ⌝ }
+// Whether no count is above a bound.
+fn all_at_most(counts: &[u32], bound: u32) -> bool
+    ensures { λ r. ⌜ r ≡ allAtMost bound (now (counts .entry)) ⌝ }
 {
     for k in 0..counts.len() {
-        if counts[k] > 500000 {
+        if counts[k] > bound {
             return false;
         }
     }
     true
 }
 
-// Check 9, of the claims taken and the sums.
-pub(crate) fn has_room(
-    taken: u32,
+// Whether sums are within bounds: one for thirtieths, one for expected sums, one for counts.
+fn are_bounded(
+    exposure: u64,
+    expected: u64,
+    count: u32,
     thirtieths: &[i64],
     closings: &[u32],
     recoveries: &[i64],
     deaths: &[i64],
 ) -> bool
-    ensures { λ r. ⌜ r ≡ (ltb taken 500000 && within 1 (lentSums (now (thirtieths .entry)) (now (closings .entry)) (now (recoveries .entry)) (now (deaths .entry)))) ⌝ }
+    requires { ⌜ exposure ≤ 27000000000000000 ⌝ }
+    requires { ⌜ expected ≤ 27000000000000000 ⌝ }
+    ensures { λ r. ⌜ r ≡ bounded exposure expected count (lentSums (now (thirtieths .entry)) (now (closings .entry)) (now (recoveries .entry)) (now (deaths .entry))) ⌝ }
 {
-    if taken >= 500000 {
+    if !all_within(thirtieths, exposure) {
         return false;
     }
-    if !all_within(thirtieths, 27000000000) {
+    if !all_within(recoveries, expected) {
         return false;
     }
-    if !all_within(recoveries, 27000000000000000) {
+    if !all_within(deaths, expected) {
         return false;
     }
-    if !all_within(deaths, 27000000000000000) {
-        return false;
-    }
-    all_at_most(closings)
+    all_at_most(closings, count)
+}
+
+// Whether lent sums are within the bounds of refusal 9.
+pub fn has_room(thirtieths: &[i64], closings: &[u32], recoveries: &[i64], deaths: &[i64]) -> bool
+    ensures { λ r. ⌜ r ≡ within 1 (lentSums (now (thirtieths .entry)) (now (closings .entry)) (now (recoveries .entry)) (now (deaths .entry))) ⌝ }
+{
+    are_bounded(
+        27000000000,
+        27000000000000000,
+        500000,
+        thirtieths,
+        closings,
+        recoveries,
+        deaths,
+    )
+}
+
+// Whether a block's fifteen claims, whatever their shares, leave them there.
+pub fn has_room_for_block(
+    thirtieths: &[i64],
+    closings: &[u32],
+    recoveries: &[i64],
+    deaths: &[i64],
+) -> bool
+    ensures { λ r. ⌜ r ≡ roomFor 15 (lentSums (now (thirtieths .entry)) (now (closings .entry)) (now (recoveries .entry)) (now (deaths .entry))) ⌝ }
+{
+    are_bounded(
+        27000000000 - 15 * 54000,
+        27000000000000000 - 15 * 240000000000000,
+        500000 - 15,
+        thirtieths,
+        closings,
+        recoveries,
+        deaths,
+    )
 }

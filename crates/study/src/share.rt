@@ -1,15 +1,15 @@
 // A span's share of a study, added to lent sums: a band of months for each group, and the closing.
 ghost use mathlib.Core.Path.{_≡_};
-ghost use mathlib.Core.Bool.{true};
 ghost use Prim.Native.Nat.{_+_, _*_, _≤_, _<_};
-ghost use lib.IntN.{pos, natAbs, _+ℤ_, _*ℤ_};
+ghost use lib.IntN.{pos, natAbs, _*ℤ_};
 ghost use lib.ListN.{length, getD, set};
 ghost use denote.Ref.{now};
-ghost use Rattle.basics.specs.Tables.{allWithin, allAtMost};
 ghost use Rattle.claim_months.specs.Span.{bandSum, SpanBounds};
 ghost use Rattle.rates.specs.Prepared.{recoveryOf, deathOf};
 ghost use Rattle.study.specs.Sums.{signedEach, countEach};
+ghost use Rattle.study.specs.PreparedAdding.{guardedSum, guardedCount};
 ghost use Rattle.study.specs.Private.{groupMonths, monthSums, spanClosings};
+use crate::room::is_within;
 use basics::Duration;
 use claim_months::Span;
 use rates::Kind;
@@ -101,14 +101,16 @@ fn group_months(span: Span, from: u32) -> u32
     later + 1
 }
 
-// Adds an amount to one of some sums.
+// Adds an amount to one of some sums, unless it is past the bounds of refusal 9: so 64 bits hold any sum.
 fn raise(sums: &mut [i64], place: usize, amount: i64)
     requires { ⌜ place < length (now sums) ⌝ }
-    requires { ⌜ allWithin 1000000000000000000 (now sums) ≡ true ⌝ }
     requires { ⌜ natAbs amount ≤ 1000000000000000000 ⌝ }
-    ensures { λ _. ⌜ now (sums .exit) ≡ set (now (sums .entry)) place (getD (now (sums .entry)) place (pos 0) +ℤ amount) ⌝ }
+    ensures { λ _. ⌜ now (sums .exit) ≡ set (now (sums .entry)) place (guardedSum (getD (now (sums .entry)) place (pos 0)) amount) ⌝ }
 {
     let before = sums[place];
+    if !is_within(before, 27000000000000000) {
+        return;
+    }
     sums[place] = before + amount;
 }
 
@@ -123,12 +125,12 @@ pub(crate) fn add_months(
     deaths: &mut [i64],
 )
     requires { ⌜ SpanBounds span ⌝ }
-    requires { ⌜ (length (now thirtieths) ≡ 5) × (allWithin 27000000000000000 (now thirtieths) ≡ true) ⌝ }
-    requires { ⌜ (length (now recoveries) ≡ 5) × (allWithin 27000000000000000 (now recoveries) ≡ true) ⌝ }
-    requires { ⌜ (length (now deaths) ≡ 5) × (allWithin 27000000000000000 (now deaths) ≡ true) ⌝ }
-    ensures { λ _. ⌜ now (thirtieths .exit) ≡ signedEach _+ℤ_ (now (thirtieths .entry)) (monthSums (λ d. pos 1) span (span .months)) ⌝ }
-    ensures { λ _. ⌜ now (recoveries .exit) ≡ signedEach _+ℤ_ (now (recoveries .entry)) (monthSums (recoveryOf kind (now (table .entry)) cell) span (span .months)) ⌝ }
-    ensures { λ _. ⌜ now (deaths .exit) ≡ signedEach _+ℤ_ (now (deaths .entry)) (monthSums (deathOf kind (now (table .entry)) cell) span (span .months)) ⌝ }
+    requires { ⌜ length (now thirtieths) ≡ 5 ⌝ }
+    requires { ⌜ length (now recoveries) ≡ 5 ⌝ }
+    requires { ⌜ length (now deaths) ≡ 5 ⌝ }
+    ensures { λ _. ⌜ now (thirtieths .exit) ≡ signedEach guardedSum (now (thirtieths .entry)) (monthSums (λ d. pos 1) span (span .months)) ⌝ }
+    ensures { λ _. ⌜ now (recoveries .exit) ≡ signedEach guardedSum (now (recoveries .entry)) (monthSums (recoveryOf kind (now (table .entry)) cell) span (span .months)) ⌝ }
+    ensures { λ _. ⌜ now (deaths .exit) ≡ signedEach guardedSum (now (deaths .entry)) (monthSums (deathOf kind (now (table .entry)) cell) span (span .months)) ⌝ }
 {
     let mut from = 0;
     while from < span.months {
@@ -145,12 +147,11 @@ pub(crate) fn add_months(
     }
 }
 
-// Counts a span's closing month, if it has one, under its group and category.
+// Counts a span's closing month, if it has one, under its group and category, unless the count is past the bound of refusal 9.
 pub(crate) fn add_closing(span: Span, counts: &mut [u32])
     requires { ⌜ SpanBounds span ⌝ }
     requires { ⌜ length (now counts) ≡ 25 ⌝ }
-    requires { ⌜ allAtMost 500000 (now counts) ≡ true ⌝ }
-    ensures { λ _. ⌜ now (counts .exit) ≡ countEach _+_ (now (counts .entry)) (spanClosings span) ⌝ }
+    ensures { λ _. ⌜ now (counts .exit) ≡ countEach guardedCount (now (counts .entry)) (spanClosings span) ⌝ }
 {
     let category = span.category;
     if category == 0 {
@@ -159,5 +160,8 @@ pub(crate) fn add_closing(span: Span, counts: &mut [u32])
     let duration = Duration(span.first.0 + span.months - 1);
     let place = 5 * (rates::group(duration) - 1) + (category - 1);
     let at = place as usize;
+    if counts[at] > 500000 {
+        return;
+    }
     counts[at] += 1;
 }

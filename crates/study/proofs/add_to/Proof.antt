@@ -1,7 +1,7 @@
 -- `study::add_to` meets its contract: a list of another length is answered 255, and else the claim's span is added.
 -- Assumes nothing.
 use borrow.Author.Needs.{needs}
-use mathlib.Core.Path.{_≡_, sym, ap, _∙_}
+use mathlib.Core.Path.{sym, _∙_}
 use native.Mathlib.Omega.{arith}
 use Rattle.claim_months.proofs.SpanAnswers.{spanned-bounds}
 use Rattle.study.specs.PreparedAdding.{lentSums}
@@ -11,16 +11,16 @@ use Rattle.study.proofs.add_to.Statement.{statement}
 use Rattle.study.proofs.add_to.Tie as tie
 
 returns : tie.Need-returns
-returns c = other-length _ _ _ _ (λ z. omega (arith, z .thirtieths))
+returns c = other-length _ _ _ _ _ (λ z. omega (arith, z .thirtieths))
 
 returns-2 : tie.Need-returns-2
-returns-2 c = other-length _ _ _ _ (λ z. omega (arith, z .closings))
+returns-2 c = other-length _ _ _ _ _ (λ z. omega (arith, z .closings))
 
 returns-3 : tie.Need-returns-3
-returns-3 c = other-length _ _ _ _ (λ z. omega (arith, z .recoveries))
+returns-3 c = other-length _ _ _ _ _ (λ z. omega (arith, z .recoveries))
 
 returns-4 : tie.Need-returns-4
-returns-4 c = other-length _ _ _ _ (λ z. omega (arith, z .deaths))
+returns-4 c = other-length _ _ _ _ _ (λ z. omega (arith, z .deaths))
 
 -- past the tests each list has its length
 long : (c : tie.Else4) → let a = c .before .before .before .before .before .before .args in Shaped (lentSums (a .thirtieths .now) (a .closings .now) (a .recoveries .now) (a .deaths .now))
@@ -36,12 +36,12 @@ returns-5 : tie.Need-returns-5
 returns-5 c =
     let m = c .before .before .before .before .before .before .before .before .before .before .before .before in
     let r = c .before .before .before .before .before .add-span .ensures in
-    with-span _ _ _ _ (long (c .before .before .before .before .before .before .before .before .before .before .before .before .before .before .before)) _ (sym (m .span2 .given .1) ∙ m .before .before .span .ensures) _ _ (r .0) (r .1)
+    with-span _ _ _ _ _ (long (c .before .before .before .before .before .before .before .before .before .before .before .before .before .before .before)) _ (sym (m .span2 .given .1) ∙ m .before .before .span .ensures) _ _ (r .0) (r .1)
 
 returns-6 : tie.Need-returns-6
 returns-6 c =
     let m = c .before in
-    without _ _ _ _ (long (c .before .before .before .before)) _ (sym (m .number .given .1) ∙ m .before .before .span .ensures)
+    without _ _ _ _ _ (long (c .before .before .before .before)) _ (sym (m .number .given .1) ∙ m .before .before .span .ensures)
 
 pub add-to-spec : {M : Type 1} → statement M
 add-to-spec =

@@ -12,15 +12,15 @@ use Rattle.study.proofs.room.all_at_most.Statement.{statement}
 use Rattle.study.proofs.room.all_at_most.Tie as tie
 
 abbrev Inv-loop : tie.InvT-loop
-Inv-loop counts k₀ k-end k = (k ≤ k-end) × (k-end ≡ length counts) × (allAtMost 500000 (drop k counts) ≡ allAtMost 500000 counts)
+Inv-loop counts bound k₀ k-end k = (k ≤ k-end) × (k-end ≡ length counts) × (allAtMost bound (drop k counts) ≡ allAtMost bound counts)
 
 abbrev μ-loop : tie.MeasureT-loop
-μ-loop counts k₀ k-end k = k-end - k
+μ-loop counts bound k₀ k-end k = k-end - k
 
 walked : (c : tie.At-loop Inv-loop μ-loop)
-    → Walk (length (c .before .args .counts .now)) 0 (λ x. leb x 500000) (allAtMost 500000) (c .before .args .counts .now) (c .loop .k)
+    → Walk (length (c .before .args .counts .now)) 0 (λ x. leb x (c .before .args .bound)) (allAtMost (c .before .args .bound)) (c .before .args .counts .now) (c .loop .k)
 unfolding allAtMost
-walked c = walk _ 0 _ (allAtMost 500000) refl (λ x xs. refl) (c .before .args .counts .now) refl (c .loop .k) (c .loop .inv .2)
+walked c = walk _ 0 _ (allAtMost (c .before .args .bound)) refl (λ x xs. refl) (c .before .args .counts .now) refl (c .loop .k) (c .loop .inv .2)
 
 loop-holds : tie.Need-loop-holds Inv-loop μ-loop
 loop-holds c = (omega arith, refl, refl)
@@ -28,14 +28,16 @@ loop-holds c = (omega arith, refl, refl)
 returns : tie.Need-returns Inv-loop μ-loop
 returns c =
     let x = getD (c .before .before .before .before .args .counts .now) (c .before .before .before .loop .k) 0 in
-    let h : 500000 < x = omega arith in
-    walked (c .before .before .before) .fails (omega arith) (lt-leb x 500000 h)
+    let b = c .before .before .before .before .args .bound in
+    let h : b < x = omega arith in
+    walked (c .before .before .before) .fails (omega arith) (lt-leb x b h)
 
 loop-again : tie.Need-loop-again Inv-loop μ-loop
 loop-again c =
     let x = getD (c .before .before .before .before .args .counts .now) (c .before .before .before .loop .k) 0 in
-    let h : x ≤ 500000 = omega arith in
-    (omega arith, refl, walked (c .before .before .before) .goes-on (omega arith) (le-leb x 500000 h))
+    let b = c .before .before .before .before .args .bound in
+    let h : x ≤ b = omega arith in
+    (omega arith, refl, walked (c .before .before .before) .goes-on (omega arith) (le-leb x b h))
 
 returns-2 : tie.Need-returns-2 Inv-loop μ-loop
 returns-2 c = walked (c .before) .ends (omega arith)

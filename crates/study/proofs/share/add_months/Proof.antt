@@ -1,14 +1,13 @@
--- `study::share::add_months` meets its contract. Invariant: to each of the three lists the months so far were added. Measure: the months left.
+-- `study::share::add_months` meets its contract. Invariant: to each of the three lists the months so far were added, and they are in earlier groups
+-- than the next. Measure: the months left.
 -- Assumes nothing.
 use borrow.Author.Needs.{needs}
 use native.Mathlib.Omega.{arith}
 use Prim.Native.Nat.{ℕ, _+_, _-_, _*_, _≤_, _<_}
 use mathlib.Core.Path.{_≡_, sym, ap, _∙_}
-use mathlib.Core.Bool.{true}
 use mathlib.Core.List.{List}
 use lib.ListN.{length}
-use lib.IntN.{ℤ, pos, natAbs, _+ℤ_}
-use Rattle.basics.specs.Tables.{allWithin}
+use lib.IntN.{ℤ, pos, natAbs}
 use Rattle.basics.proofs.Signed.{Small, read-back}
 use Rattle.claim_months.specs.declared.Span.{Span}
 use Rattle.claim_months.specs.Span.{spanU, SpanBounds}
@@ -16,15 +15,13 @@ use Rattle.claim_months.proofs.Bands.{band-ones, span-U-high, span-B-high}
 use Rattle.rates.specs.Prepared.{recoveryOf, deathOf}
 use Rattle.rates.specs.Rates.{groupOf}
 use Rattle.rates.proofs.Laws.{group-low, group-high}
-use Rattle.study.specs.Private.{monthSums}
-use Rattle.study.proofs.Algebra.{signed-length}
-use Rattle.study.proofs.Raised.{Raised, raised-none, raised-fits, raised-step, months-low, months-high}
+use Rattle.study.proofs.Raised.{Raised, Before, raised-none, raised-length, raised-step, before-none, before-more, months-low, months-high}
 use Rattle.study.proofs.share.add_months.Statement.{statement}
 use Rattle.study.proofs.share.add_months.Tie as tie
 
 abbrev Inv-loop : tie.InvT-loop
 Inv-loop kind table cell span thirtieths₀ recoveries₀ deaths₀ from₀ thirtieths recoveries deaths from =
-    (from ≤ span .months) × Raised thirtieths₀ thirtieths (λ d. pos 1) span from × Raised recoveries₀ recoveries (recoveryOf kind table cell) span from
+    (from ≤ span .months) × Before span from × Raised thirtieths₀ thirtieths (λ d. pos 1) span from × Raised recoveries₀ recoveries (recoveryOf kind table cell) span from
     × Raised deaths₀ deaths (deathOf kind table cell) span from
 
 abbrev μ-loop : tie.MeasureT-loop
@@ -33,7 +30,7 @@ abbrev μ-loop : tie.MeasureT-loop
 loop-holds : tie.Need-loop-holds Inv-loop μ-loop
 loop-holds c =
     let p = c .before .pre .1 in
-    (omega arith, raised-none _ _ _ (p .0 .0) (p .0 .1), raised-none _ _ _ (p .1 .0 .0) (p .1 .0 .1), raised-none _ _ _ (p .1 .1 .0) (p .1 .1 .1))
+    (omega arith, before-none (c .before .args .span), raised-none _ _ _ (p .0), raised-none _ _ _ (p .1 .0), raised-none _ _ _ (p .1 .1))
 
 group-months-requires : tie.Need-group-months-requires Inv-loop μ-loop
 group-months-requires c κs = (c .before .before .before .before .pre .0, omega arith)
@@ -100,34 +97,31 @@ module _ (m : tie.After-group-months Inv-loop μ-loop) where
   short-span : start m + m .group-months .result ≤ 1800
   short-span = omega (arith, inside m, bounds m .months-high)
 
-  fits : (old l : List ℤ) (w : ℕ → ℤ) → Raised old l w (span m) (start m) → (g : ℕ) → g ≡ groupOf (span m .first .0 + start m)
-      → (g - 1 < length l) × (allWithin 1000000000000000000 l ≡ true)
-  fits old l w r g e =
-      let f = raised-fits old l w (span m) (start m) r (omega (arith, short-span)) in
-      (omega (arith, f .0, place-high g e), f .1)
+  fits : (old l : List ℤ) (w : ℕ → ℤ) → Raised old l w (span m) (start m) → (g : ℕ) → g ≡ groupOf (span m .first .0 + start m) → g - 1 < length l
+  fits old l w r g e = omega (arith, raised-length old l w (span m) (start m) r, place-high g e)
 
 raise-requires : tie.Need-raise-requires Inv-loop μ-loop
 raise-requires c κs =
     let m = c .before .before .before .before .before .before .before .before in
-    let f = fits m _ _ _ (m .before .before .before .loop .inv .1) (c .before .before .before .before .before .before .group .result) (c .before .before .before .before .before .before .group .ensures) in
+    let f = fits m _ _ _ (m .before .before .before .loop .inv .2) (c .before .before .before .before .before .before .group .result) (c .before .before .before .before .before .before .group .ensures) in
     let t = c .band-thirtieths .ensures .1 in
-    (f .0, (f .1, rw (read-back (c .band-thirtieths .result) (omega (arith, short-span m))) (omega (arith, short-span m))))
+    (f, rw (read-back (c .band-thirtieths .result) (omega (arith, short-span m))) (omega (arith, short-span m)))
 
 raise-requires-2 : tie.Need-raise-requires-2 Inv-loop μ-loop
 raise-requires-2 c κs =
     let m = c .before .before .before .before .before .before .before .before .before .before .before .before in
-    let f = fits m _ _ _ (m .before .before .before .loop .inv .2) (c .before .before .before .before .before .before .before .before .before .before .group .result) (c .before .before .before .before .before .before .before .before .before .before .group .ensures) in
+    let f = fits m _ _ _ (m .before .before .before .loop .inv .3) (c .before .before .before .before .before .before .before .before .before .before .group .result) (c .before .before .before .before .before .before .before .before .before .before .group .ensures) in
     let r = c .before .before .before .before .before .before .band-rates in
     let t = r .ensures .1 .1 .0 in
-    (f .0, (f .1, rw (read-back (r .result .recoveries) (omega (arith, short-span m))) (omega (arith, short-span m))))
+    (f, rw (read-back (r .result .recoveries) (omega (arith, short-span m))) (omega (arith, short-span m)))
 
 raise-requires-3 : tie.Need-raise-requires-3 Inv-loop μ-loop
 raise-requires-3 c κs =
     let m = c .before .before .before .before .before .before .before .before .before .before .before .before .before .before .before .before in
-    let f = fits m _ _ _ (m .before .before .before .loop .inv .3) (c .before .before .before .before .before .before .before .before .before .before .before .before .before .before .group .result) (c .before .before .before .before .before .before .before .before .before .before .before .before .before .before .group .ensures) in
+    let f = fits m _ _ _ (m .before .before .before .loop .inv .4) (c .before .before .before .before .before .before .before .before .before .before .before .before .before .before .group .result) (c .before .before .before .before .before .before .before .before .before .before .before .before .before .before .group .ensures) in
     let r = c .before .before .before .before .before .before .before .before .before .before .band-rates in
     let t = r .ensures .1 .1 .1 in
-    (f .0, (f .1, rw (read-back (r .result .deaths) (omega (arith, short-span m))) (omega (arith, short-span m))))
+    (f, rw (read-back (r .result .deaths) (omega (arith, short-span m))) (omega (arith, short-span m)))
 
 add-from : tie.Need-add-from Inv-loop μ-loop
 add-from c =
@@ -157,32 +151,33 @@ loop-again c =
     let p = g .result - 1 in
     let hp : p ≡ groupOf d - 1 = ap (λ (x : ℕ). x - 1) (g .ensures) in (
       inside m,
-      raised-step _ (span m) (bounds m) (start m) (omega arith) n p b s (m .group-months .ensures) hp (u .before .lower .ensures) hs _ _ _ (i .1) (t .result) (t .ensures .0 ∙ one) (t .ensures .1)
+      rw (m .group-months .ensures) (before-more (λ d. pos 1) (span m) (bounds m) (start m) (omega arith) (i .1)),
+      raised-step _ (span m) (bounds m) (start m) (omega arith) n p b s (m .group-months .ensures) hp (u .before .lower .ensures) hs (i .1) _ _ _ (i .2) (t .result) (t .ensures .0 ∙ one)
           (rw (read-back (t .result) (small (t .result) (t .ensures .1))) at (c .before .before .before .before .before .before .before .before .before .raise .ensures)),
-      raised-step _ (span m) (bounds m) (start m) (omega arith) n p b s (m .group-months .ensures) hp (u .before .lower .ensures) hs _ _ _ (i .2) (r .result .recoveries) (r .ensures .0) (r .ensures .1 .1 .0)
+      raised-step _ (span m) (bounds m) (start m) (omega arith) n p b s (m .group-months .ensures) hp (u .before .lower .ensures) hs (i .1) _ _ _ (i .3) (r .result .recoveries) (r .ensures .0)
           (rw (read-back (r .result .recoveries) (small (r .result .recoveries) (r .ensures .1 .1 .0))) at (c .before .before .before .before .before .raise2 .ensures)),
-      raised-step _ (span m) (bounds m) (start m) (omega arith) n p b s (m .group-months .ensures) hp (u .before .lower .ensures) hs _ _ _ (i .3) (r .result .deaths) (r .ensures .1 .0) (r .ensures .1 .1 .1)
+      raised-step _ (span m) (bounds m) (start m) (omega arith) n p b s (m .group-months .ensures) hp (u .before .lower .ensures) hs (i .1) _ _ _ (i .4) (r .result .deaths) (r .ensures .1 .0)
           (rw (read-back (r .result .deaths) (small (r .result .deaths) (r .ensures .1 .1 .1))) at (c .before .raise3 .ensures)),
     )
 
 -- a list keeps its length
 kept : (old l : List ℤ) (w : ℕ → ℤ) (sp : Span) (n : ℕ) → Raised old l w sp n → length old ≡ 5 → length l ≡ length old
-kept old l w sp n r e = ap length (r .is) ∙ signed-length _+ℤ_ old (monthSums w sp n) ∙ sym e
+kept old l w sp n r e = raised-length old l w sp n r ∙ sym e
 
 same-length : tie.Need-same-length Inv-loop μ-loop
-same-length c = kept _ _ _ _ _ (c .before .before .loop .inv .1) (c .before .before .before .before .pre .1 .0 .0)
+same-length c = kept _ _ _ _ _ (c .before .before .loop .inv .2) (c .before .before .before .before .pre .1 .0)
 
 same-length-2 : tie.Need-same-length-2 Inv-loop μ-loop
-same-length-2 c = kept _ _ _ _ _ (c .before .before .loop .inv .2) (c .before .before .before .before .pre .1 .1 .0 .0)
+same-length-2 c = kept _ _ _ _ _ (c .before .before .loop .inv .3) (c .before .before .before .before .pre .1 .1 .0)
 
 same-length-3 : tie.Need-same-length-3 Inv-loop μ-loop
-same-length-3 c = kept _ _ _ _ _ (c .before .before .loop .inv .3) (c .before .before .before .before .pre .1 .1 .1 .0)
+same-length-3 c = kept _ _ _ _ _ (c .before .before .loop .inv .4) (c .before .before .before .before .pre .1 .1 .1)
 
 returns : tie.Need-returns Inv-loop μ-loop
 returns c =
     let i = c .before .before .loop .inv in
     let e : c .before .before .loop .from ≡ c .before .before .before .before .args .span .months = omega arith in
-    (rw e at (i .1 .is), (rw e at (i .2 .is), rw e at (i .3 .is)))
+    (rw e at (i .2), (rw e at (i .3), rw e at (i .4)))
 
 pub add-months-spec : {M : Type 1} → statement M
 add-months-spec =

@@ -1,0 +1,98 @@
+-- Sums within bounds, as one test and as facts of their four lists, and what is added to sums within and past the bounds of refusal 9.
+-- Assumes nothing.
+use Prim.Native.Nat.{ℕ, _+_, _-_, _*_, _≤_, _<_}
+use mathlib.Core.Path.{_≡_, refl, sym, ap, _∙_}
+use mathlib.Core.Bool.{Bool, true, false, _&&_}
+use mathlib.Core.List.{List}
+use lib.Dec.{leb}
+use lib.IntN.{ℤ, pos, natAbs, _+ℤ_, +ℤ-idr}
+use borrow.Author.Tests.{le-leb, lt-leb, leb-true}
+use Rattle.basics.specs.Tables.{allWithin, allAtMost}
+use Rattle.basics.proofs.Tests.{tests, and-left, and-right, pick-is}
+use Rattle.basics.proofs.Tables.{within-list, within-at, at-most-list, at-most-at}
+use Rattle.study.specs.declared.Sums.{Sums}
+use Rattle.study.specs.Sums.{within}
+use Rattle.study.specs.PreparedAdding.{roomFor, guardedSum, guardedCount}
+use Rattle.study.specs.Private.{bounded}
+
+pub record InBounds (exposure expected count : ℕ) (s : Sums) : Type 0 where
+  pub thirtieths : allWithin exposure (s .thirtieths) ≡ true
+  pub recoveries : allWithin expected (s .recoveries) ≡ true
+  pub deaths : allWithin expected (s .deaths) ≡ true
+  pub closings : allAtMost count (s .closings) ≡ true
+
+-- wider bounds
+pub wider : (m n : ℕ) (l : List ℤ) → m ≤ n → allWithin m l ≡ true → allWithin n l ≡ true
+wider m n l h w = within-list n l (λ k q. let t = within-at m l k w in omega tests)
+
+module _ (t e n : ℕ) (s : Sums) where
+  pub bounded-so : bounded t e n s ≡ true → InBounds t e n s
+  unfolding bounded
+  bounded-so h =
+      let a = allWithin t (s .thirtieths) in
+      let b = allWithin e (s .recoveries) in
+      let c = allWithin e (s .deaths) in
+      let d = allAtMost n (s .closings) in
+      let abc = and-left (a && b && c) d h in
+      let ab = and-left (a && b) c abc in
+      record {
+        thirtieths = and-left a b ab;
+        recoveries = and-right a b ab;
+        deaths = and-right (a && b) c abc;
+        closings = and-right (a && b && c) d h;
+      }
+
+  pub so-bounded : InBounds t e n s → bounded t e n s ≡ true
+  unfolding bounded
+  so-bounded b = rw (b .thirtieths, b .recoveries, b .deaths, b .closings)
+
+  pub wider-bounds : (t′ e′ n′ : ℕ) → t ≤ t′ → e ≤ e′ → n ≤ n′ → InBounds t e n s → InBounds t′ e′ n′ s
+  wider-bounds t′ e′ n′ p q r b =
+      record {
+        thirtieths = wider t t′ (s .thirtieths) p (b .thirtieths);
+        recoveries = wider e e′ (s .recoveries) q (b .recoveries);
+        deaths = wider e e′ (s .deaths) q (b .deaths);
+        closings = at-most-list n′ (s .closings) (λ k _. let h = at-most-at n (s .closings) k (b .closings) in omega tests);
+      }
+
+-- the bounds of refusal 9, and those with room for n claims
+pub within-bounds : (s : Sums) → within 1 s ≡ bounded 27000000000 27000000000000000 500000 s
+unfolding within bounded
+within-bounds s = refl
+
+pub room-bounds : (n : ℕ) (s : Sums) → roomFor n s ≡ bounded (27000000000 - 54000 * n) (27000000000000000 - 240000000000000 * n) (500000 - n) s
+unfolding roomFor bounded
+room-bounds n s = refl
+
+-- an amount added to a sum that a test finds within the bound, and to one past it; nothing added; the same of a count
+module _ (x y : ℤ) (b : ℕ) (r : Bool) (t : r ≡ leb (natAbs x) b) (e : b ≡ 27000000000000000) where
+  so : r ≡ leb (natAbs x) 27000000000000000
+  so = t ∙ ap (leb (natAbs x)) e
+
+  pub sum-raised : r ≡ true → guardedSum x y ≡ x +ℤ y
+  unfolding guardedSum
+  sum-raised h = rw (sym so ∙ h)
+
+  pub sum-past : r ≡ false → guardedSum x y ≡ x
+  unfolding guardedSum
+  sum-past h = rw (sym so ∙ h)
+
+  pub sum-small : r ≡ true → natAbs x ≤ 27000000000000000
+  sum-small h = leb-true (natAbs x) 27000000000000000 (sym so ∙ h)
+
+pub sum-none : (x : ℤ) → guardedSum x (pos 0) ≡ x
+unfolding guardedSum
+sum-none x = pick-is (leb (natAbs x) 27000000000000000) (λ _. +ℤ-idr x) (λ _. refl)
+
+module _ (x y : ℕ) where
+  pub count-raised : x ≤ 500000 → guardedCount x y ≡ x + y
+  unfolding guardedCount
+  count-raised h = rw (le-leb x 500000 h)
+
+  pub count-past : 500000 < x → guardedCount x y ≡ x
+  unfolding guardedCount
+  count-past h = rw (lt-leb x 500000 h)
+
+pub count-none : (x : ℕ) → guardedCount x 0 ≡ x
+unfolding guardedCount
+count-none x = pick-is (leb x 500000) (λ _. omega tests) (λ _. refl)
