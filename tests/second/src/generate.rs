@@ -3,6 +3,7 @@
 use crate::block::{seal, write_block, write_window, BLOCK_LENGTH, MOST_IN_BLOCK};
 use crate::calendar::{month_length, Date, Day};
 use crate::claim::{Claim, CLOSED};
+use crate::examples::STUDY_WINDOW;
 use crate::rates::{CELL_LENGTH, DURATIONS};
 use crate::rng::Rng;
 
@@ -57,7 +58,6 @@ pub fn sound_claim(rng: &mut Rng) -> Claim {
 
 /// A window that passes check 1: the study's, the whole calendar, or near the claim's dates.
 pub fn sound_window(rng: &mut Rng, claim: &Claim) -> (Date, Date) {
-    let study = (Date::new(2009, 1, 1), Date::new(2017, 12, 31));
     let bcd = claim.bcd.day_number().unwrap_or(Day(20_000)).0;
     let end = claim.termination.day_number().map_or(bcd + 500, |day| day.0);
     let near = |rng: &mut Rng, days: i32| {
@@ -65,7 +65,7 @@ pub fn sound_window(rng: &mut Rng, claim: &Claim) -> (Date, Date) {
         day_between(rng, around - days, around + days)
     };
     let (one, other) = match rng.below(8) {
-        0 => return study,
+        0 => return STUDY_WINDOW,
         1 => (Day::FIRST, Day::LAST),
         2 => (any_day(rng), any_day(rng)),
         3 => {

@@ -2,11 +2,12 @@
 //! benchmark measures against it.
 //!
 //! Layers as in the paper: `calendar`, `claim` and `months`, `study`, `valuation`; beside them the lent `rates`, the claim file (`block`,
-//! `run`) and what the program prints (`report`); `generate`, `load` and `rng` make inputs for tests and measurements.
+//! `run`) and what the program prints (`report`); `examples`, `generate`, `load` and `rng` make inputs for tests and measurements.
 
 pub mod block;
 pub mod calendar;
 pub mod claim;
+pub mod examples;
 pub mod generate;
 pub mod load;
 pub mod months;

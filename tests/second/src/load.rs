@@ -6,7 +6,7 @@ use crate::rates::DURATIONS;
 use crate::rng::Rng;
 
 /// The study's window.
-pub const NINE_YEARS: (Date, Date) = (Date::new(2009, 1, 1), Date::new(2017, 12, 31));
+pub use crate::examples::STUDY_WINDOW as NINE_YEARS;
 
 fn day(year: u16, month: u8, day: u8) -> Day {
     Date::new(year, month, day).day_number().unwrap()

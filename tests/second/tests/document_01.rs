@@ -5,45 +5,16 @@ use second::block::{
 };
 use second::calendar::{month_length, ClaimMonths, Date, Day};
 use second::claim::{Claim, CLOSED, DEATH, LIMIT, MAX_OUT, OPEN, RECOVERY, SETTLEMENT};
+use second::examples::{closed_claim, date, day, flat_rates, open_claim, rows_in, with_elimination, STUDY_WINDOW};
+use second::generate::claim_file;
 use second::months::{listing, Window};
-use second::rates::{RateTable, CELL_LENGTH, DURATIONS};
+use second::rates::{RateTable, CELL_LENGTH};
 use second::report::{decode_rates, report};
 use second::rng::Rng;
 use second::run::{run_file, FileRun};
 use second::study::{duration_group, Study};
 use second::valuation::{factor, reserve_factor, valuation_rate, Factor};
 use second::{claim::Duration, Refusal};
-
-fn date(text: &str) -> Date {
-    let mut parts = text.split('-').map(|part| part.parse().unwrap());
-    let [year, month, day]: [u16; 3] = std::array::from_fn(|_| parts.next().unwrap());
-    Date::new(year, month as u8, day as u8)
-}
-
-fn day(text: &str) -> Day {
-    date(text).day_number().unwrap()
-}
-
-/// An open claim with an elimination period of 90 days, cell 0, maximum date missing.
-fn open_claim(bcd: &str) -> Claim {
-    with_elimination(bcd, 90)
-}
-
-fn with_elimination(bcd: &str, days: i32) -> Claim {
-    Claim { number: 1, disability: (day(bcd) + -days).date(), bcd: date(bcd), status: OPEN, ..Claim::default() }
-}
-
-fn closed_claim(bcd: &str, termination: &str, code: u8) -> Claim {
-    Claim { termination: date(termination), status: CLOSED, code, ..open_claim(bcd) }
-}
-
-/// The listing over a window as rows.
-fn rows_in(first: &str, last: &str, claim: &Claim) -> Result<Vec<[i32; 6]>, Refusal> {
-    let mut list = vec![-7; 6 * 1_800];
-    let count = listing(date(first), date(last), claim, &mut list)?;
-    assert!(list[6 * count..].iter().all(|&number| number == -7), "the list past the records is unchanged");
-    Ok(list[..6 * count].chunks_exact(6).map(|row| row.try_into().unwrap()).collect())
-}
 
 /// Over the window 2009-01-01 to 2017-12-31.
 fn rows(claim: &Claim) -> Vec<[i32; 6]> {
@@ -56,22 +27,6 @@ fn thirtieths(rows: &[[i32; 6]]) -> Vec<i32> {
 
 fn refusal(claim: &Claim) -> Option<u8> {
     rows_in("2009-01-01", "2017-12-31", claim).err().map(Refusal::number)
-}
-
-/// A table of one cell with the same rates at all durations.
-fn flat_rates(recovery: u32, death: u32) -> Vec<u32> {
-    [[recovery; DURATIONS], [death; DURATIONS]].concat()
-}
-
-fn file_of(first: Date, last: Date, claims: &[Claim]) -> Vec<u8> {
-    let mut file = vec![0; BLOCK_LENGTH];
-    write_window(first, last, &mut file).unwrap();
-    for (number, claims) in (1..).zip(claims.chunks(15)) {
-        let mut block = [0; BLOCK_LENGTH];
-        write_block(number, claims, &mut block).unwrap();
-        file.extend(block);
-    }
-    file
 }
 
 fn printed(run: &FileRun) -> String {
@@ -588,7 +543,7 @@ fn reserve_factors() {
 #[test]
 fn the_printed_example() {
     let claim = Claim { disability: date("2009-03-13"), ..closed_claim("2009-06-11", "2012-04-29", RECOVERY) };
-    let run = run_file(&file_of(date("2009-01-01"), date("2017-12-31"), &[claim]), &flat_rates(10_000, 5_000));
+    let run = run_file(&claim_file(STUDY_WINDOW, &[claim], None), &flat_rates(10_000, 5_000));
     assert_eq!(
         printed(&run),
         "group exposure rec dea set max lim exprec expdea T\n\
@@ -610,26 +565,26 @@ fn refused_runs() {
     assert_eq!(line(&[0; 511], &rates), "refused 11 block 0 claim 0\n");
 
     // A bad window; the study is the one of a refused opening.
-    let file = file_of(last, first, &[sound]);
+    let file = claim_file((last, first), &[sound], None);
     assert_eq!(line(&file, &rates), "refused 1 block 0 claim 0\n");
     assert_eq!(run_file(&file, &rates).study, Study::unopened());
     assert_eq!(run_file(&[], &rates).study, Study::unopened());
 
     // Without claims no rates are asked for.
-    assert_eq!(run_file(&file_of(first, last, &[]), &[]).refused, 0);
-    assert_eq!(line(&file_of(first, last, &[sound]), &[]), "refused 6 block 1 claim 1\n");
+    assert_eq!(run_file(&claim_file((first, last), &[], None), &[]).refused, 0);
+    assert_eq!(line(&claim_file((first, last), &[sound], None), &[]), "refused 6 block 1 claim 1\n");
 
     // The 18th claim is the third of block 2; the claims before it stay in.
     let mut claims = vec![sound; 20];
     claims[17].code = 6;
-    let mut file = file_of(first, last, &claims);
+    let mut file = claim_file((first, last), &claims, None);
     let run = run_file(&file, &rates);
     assert_eq!(printed(&run), "refused 3 block 2 claim 3\n");
     assert_eq!((run.study.claims_taken, run.study.groups[2].closings[0]), (17, 17));
     // A part block at the end comes after it; in a sound file it is refused under the number due.
     file.push(0);
     assert_eq!(line(&file, &rates), "refused 3 block 2 claim 3\n");
-    let mut file = file_of(first, last, &vec![sound; 20]);
+    let mut file = claim_file((first, last), &vec![sound; 20], None);
     file.push(0);
     assert_eq!(line(&file, &rates), "refused 11 block 3 claim 0\n");
     assert_eq!(run_file(&file, &rates).study.claims_taken, 20);
@@ -638,7 +593,7 @@ fn refused_runs() {
 #[test]
 fn the_half_millionth_claim_is_the_last() {
     let claim = closed_claim("2001-02-10", "2001-02-10", RECOVERY);
-    let mut file = file_of(date("2009-01-01"), date("2017-12-31"), &vec![claim; 500_000]);
+    let mut file = claim_file(STUDY_WINDOW, &vec![claim; 500_000], None);
     let rates = flat_rates(0, 0);
     assert_eq!(run_file(&file, &rates).refused, 0);
     let mut block = [0; BLOCK_LENGTH];
@@ -650,7 +605,7 @@ fn the_half_millionth_claim_is_the_last() {
 
 #[test]
 fn the_block_number_is_counted_past_65535() {
-    let mut file = file_of(date("2009-01-01"), date("2017-12-31"), &[]);
+    let mut file = claim_file(STUDY_WINDOW, &[], None);
     for number in 1..=65_535 {
         let mut block = [0; BLOCK_LENGTH];
         write_block(number, &[], &mut block).unwrap();

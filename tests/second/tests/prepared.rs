@@ -2,16 +2,12 @@
 
 use second::calendar::Date;
 use second::claim::Claim;
+use second::examples::flat_rates;
 use second::generate::{claim_file, damage_claim, damage_rates, sound_claim, sound_rates, sound_window};
 use second::rates::{prepare, CELL_LENGTH, DURATIONS};
 use second::rng::Rng;
 use second::run::{run_file, run_prepared_file};
 use second::Refusal;
-
-/// A cell with the same rates at all durations.
-fn flat_rates(recovery: u32, death: u32) -> Vec<u32> {
-    [[recovery; DURATIONS], [death; DURATIONS]].concat()
-}
 
 /// Rates and a last number.
 fn table_of(rates: &[u32], last: u32) -> Vec<u32> {

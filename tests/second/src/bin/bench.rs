@@ -1,14 +1,20 @@
 //! Measures the engine beside the second implementation: bench DIR PROGRAM SECOND_PROGRAM [CLAIMS]. What is compared takes turns over one
 //! claim file, and the best of five turns counts. The load stays in DIR as claims.bin and rates.bin.
 //!
-//! Prints two tables: the speed of the calls in memory, of the programs, and of `cat` as the floor; and the shape of the cost.
+//! Prints three tables: the speed of the calls in memory, of the programs, and of `cat` as the floor; the shape of the cost; and what the
+//! walk over a claim's months costs early and late in the calendar.
 
+use second::block::claim_record;
 use second::calendar::Date;
+use second::claim::{Claim, CLOSED, SETTLEMENT};
 use second::ffi;
 use second::generate::claim_file;
 use second::load::{claims, rates, NINE_YEARS};
+use second::months::listing;
+use second::rates::RateTable;
 use second::report::{encode_rates, report};
 use second::run::run_file;
+use second::study::{Study, STUDY_LENGTH};
 use second::valuation::factor;
 use std::env;
 use std::fs::{self, File};
@@ -18,6 +24,8 @@ use std::process::{exit, Command, Stdio};
 use std::time::Instant;
 
 const TURNS: usize = 5;
+/// Of runs that take milliseconds.
+const SHORT_TURNS: usize = 40;
 const SEED: u64 = 1;
 const CELLS: usize = 16;
 const ONE_YEAR: (Date, Date) = (Date::new(2013, 1, 1), Date::new(2013, 12, 31));
@@ -36,7 +44,7 @@ fn main() {
         eprintln!("usage: bench DIR PROGRAM SECOND_PROGRAM [CLAIMS, 8 to 500,000]");
         exit(2);
     };
-    let measured = speed(Path::new(&arguments[0]), &arguments[1], &arguments[2], count).and_then(|()| shape(count));
+    let measured = speed(Path::new(&arguments[0]), &arguments[1], &arguments[2], count).and_then(|()| shape(count)).and_then(|()| walk());
     if let Err(wrong) = measured {
         eprintln!("bench: {wrong}");
         exit(1);
@@ -105,9 +113,9 @@ fn process(program: &str, dir: &Path, output: Stdio, wanted: &str) -> Timed {
 }
 
 /// The best time of each run; they take turns.
-fn best<const N: usize>(runs: [&dyn Fn() -> Timed; N]) -> Result<[f64; N], String> {
+fn best<const N: usize>(turns: usize, runs: [&dyn Fn() -> Timed; N]) -> Result<[f64; N], String> {
     let mut best = [f64::INFINITY; N];
-    for _ in 0..TURNS {
+    for _ in 0..turns {
         for (best, run) in best.iter_mut().zip(runs) {
             *best = best.min(run()?);
         }
@@ -121,13 +129,14 @@ fn speed(dir: &Path, program: &str, second_program: &str, count: usize) -> Resul
         fs::write(dir.join(name), bytes).map_err(|error| format!("{name}: {error}"))?;
     }
     let table = report(&load.numbers, |group, c, e| factor(group, c, e).expect("a study's group and closing counts"));
-    let [engine, second, first_process, second_process, cat] = best([
+    let runs: [&dyn Fn() -> Timed; 5] = [
         &|| load.engine(),
         &|| load.second(),
         &|| process(program, dir, Stdio::piped(), &table),
         &|| process(second_program, dir, Stdio::piped(), &table),
         &|| process("cat", dir, Stdio::null(), ""),
-    ])?;
+    ];
+    let [engine, second, first_process, second_process, cat] = best(TURNS, runs)?;
 
     println!("{} claims, {CELLS} cells, nine years, best of {TURNS} turns:\n", grouped(count as f64));
     println!("| run | time | claims a second | months a second | ratio |");
@@ -159,13 +168,84 @@ fn shape(count: usize) -> Result<(), String> {
     ];
     for (count, cells, years, window) in shapes {
         let load = Load::new(count, cells, window);
-        let [engine, second] = best([&|| load.engine(), &|| load.second()])?;
+        let [engine, second] = best(TURNS, [&|| load.engine(), &|| load.second()])?;
         let cost = |seconds: f64| {
             let (claim, month) = (seconds * 1e9 / count as f64, seconds * 1e9 / load.months());
             format!("{:.1} ms | {claim:.1} ns | {month:.2} ns", seconds * 1e3)
         };
         let (claims, months) = (grouped(count as f64), grouped(load.months()));
         println!("| {claims} | {cells} | {years} | {months} | {} | {} | {:.3} |", cost(engine), cost(second), engine / second);
+    }
+    Ok(())
+}
+
+const WALKS: usize = 10_000;
+
+/// A claim settled in its second year, EP 30, and what the calls must give for it.
+struct Walked {
+    record: [u8; 32],
+    rates: Vec<u32>,
+    list: Vec<i32>,
+    study: [i64; STUDY_LENGTH],
+}
+
+impl Walked {
+    fn new(year: u16) -> Walked {
+        let (disability, bcd, termination) = (Date::new(year, 1, 11), Date::new(year, 2, 10), Date::new(year + 1, 12, 20));
+        let claim = Claim { number: 1, disability, bcd, termination, status: CLOSED, code: SETTLEMENT, ..Claim::default() };
+        let mut list = vec![0; 23 * 6];
+        listing(CALENDAR.0, CALENDAR.1, &claim, &mut list).expect("23 months");
+        let rates = rates(SEED, 1);
+        let table = RateTable::new(&rates);
+        let mut study = Study::open(CALENDAR.0, CALENDAR.1).expect("a window");
+        for _ in 0..WALKS {
+            study.add(&claim, &table).expect("a sound claim");
+        }
+        Walked { record: claim_record(&claim), list, study: study.numbers(), rates }
+    }
+
+    fn listings(&self) -> Timed {
+        let (first, last) = (CALENDAR.0.to_number(), CALENDAR.1.to_number());
+        let mut list = vec![0; self.list.len()];
+        let begin = Instant::now();
+        let listed: u64 = (0..WALKS).map(|_| ffi::listing(first, last, black_box(&self.record), black_box(&mut list))).sum();
+        let seconds = begin.elapsed().as_secs_f64();
+        let wanted = (WALKS * self.list.len() / 6) as u64;
+        if (listed, &list) == (wanted, &self.list) {
+            Ok(seconds)
+        } else {
+            Err(format!("listing gave {listed} months and {list:?} for {wanted} and {:?}", self.list))
+        }
+    }
+
+    fn additions(&self) -> Timed {
+        let mut study = [0; STUDY_LENGTH];
+        ffi::open(CALENDAR.0.to_number(), CALENDAR.1.to_number(), &mut study);
+        let begin = Instant::now();
+        for _ in 0..WALKS {
+            ffi::add(&mut study, black_box(&self.record), black_box(&self.rates));
+        }
+        let seconds = begin.elapsed().as_secs_f64();
+        if study == self.study {
+            Ok(seconds)
+        } else {
+            Err(format!("adding gave {study:?} for {:?}", self.study))
+        }
+    }
+}
+
+/// The months of a claim closed in its second year, at the start of the calendar and at its end.
+fn walk() -> Result<(), String> {
+    let (early, late) = (Walked::new(1950), Walked::new(2098));
+    let runs: [(&str, fn(&Walked) -> Timed); 2] = [("listings", Walked::listings), ("additions", Walked::additions)];
+    println!("\nEP 30, in the window 1950-01-01 to 2099-12-31, best of {SHORT_TURNS} turns:\n");
+    println!(
+        "| calls | BCD 1950-02-10, settled 1951-12-20 | BCD 2098-02-10, settled 2099-12-20 | ratio (at most 2 asked, 1.2 our own bar) |"
+    );
+    println!("|---|---|---|---|");
+    for (calls, run) in runs {
+        let [early, late] = best(SHORT_TURNS, [&|| run(&early), &|| run(&late)])?;
+        println!("| {} {calls} | {:.3} ms | {:.3} ms | {:.3} |", grouped(WALKS as f64), early * 1e3, late * 1e3, early / late);
     }
     Ok(())
 }

@@ -4,6 +4,7 @@
 use second::block::{seal, write_block, BLOCK_LENGTH};
 use second::calendar::Date;
 use second::claim::{Claim, CLOSED, OPEN, RECOVERY, SETTLEMENT};
+use second::examples::STUDY_WINDOW as WINDOW;
 use second::generate::{claim_file, damage_claim, damage_file, damage_rates, sound_claim, sound_rates, sound_window};
 use second::rates::{CELL_LENGTH, DURATIONS};
 use second::report::encode_rates;
@@ -13,8 +14,6 @@ use std::fs;
 use std::io::Result;
 use std::path::Path;
 use std::process::exit;
-
-const WINDOW: (Date, Date) = (Date::new(2009, 1, 1), Date::new(2017, 12, 31));
 
 /// Document 01's example of the program.
 const EXAMPLE: Claim = Claim {

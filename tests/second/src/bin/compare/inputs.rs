@@ -1,39 +1,11 @@
-//! Inputs that the tests of several subjects use: dates and claims from text, claims, rates and files at random.
+//! Inputs that the tests of several subjects use: the papers' examples, claims, rates and files at random.
 
 use second::block::{claim_record, CLAIM_LENGTH, ZEROS_AT};
-use second::calendar::{Date, Day};
-use second::claim::{Claim, CLOSED, OPEN};
+use second::calendar::Date;
+use second::claim::Claim;
+pub use second::examples::{closed_claim, date, day, flat_rates, open_claim, with_elimination, STUDY_WINDOW};
 use second::generate::{claim_file, damage_claim, sound_claim, sound_rates, sound_window};
-use second::rates::DURATIONS;
 use second::rng::Rng;
-
-pub fn date(text: &str) -> Date {
-    let mut parts = text.split('-').map(|part| part.parse().unwrap());
-    let [year, month, day]: [u16; 3] = std::array::from_fn(|_| parts.next().unwrap());
-    Date::new(year, month as u8, day as u8)
-}
-
-pub fn day(text: &str) -> Day {
-    date(text).day_number().unwrap()
-}
-
-pub const STUDY_WINDOW: (Date, Date) = (Date::new(2009, 1, 1), Date::new(2017, 12, 31));
-
-pub fn with_elimination(bcd: &str, days: i32) -> Claim {
-    Claim { number: 1, disability: (day(bcd) + -days).date(), bcd: date(bcd), status: OPEN, ..Claim::default() }
-}
-
-pub fn open_claim(bcd: &str) -> Claim {
-    with_elimination(bcd, 90)
-}
-
-pub fn closed_claim(bcd: &str, termination: &str, code: u8) -> Claim {
-    Claim { termination: date(termination), status: CLOSED, code, ..open_claim(bcd) }
-}
-
-pub fn flat_rates(recovery: u32, death: u32) -> Vec<u32> {
-    [[recovery; DURATIONS], [death; DURATIONS]].concat()
-}
 
 pub fn sound_claims(rng: &mut Rng, count: usize, cells: usize) -> Vec<Claim> {
     (0..count).map(|_| Claim { cell: rng.below(cells as u64) as u8, ..sound_claim(rng) }).collect()

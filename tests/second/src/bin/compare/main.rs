@@ -8,6 +8,7 @@ mod figures;
 mod file_runs;
 mod inputs;
 mod listing;
+mod month_walk;
 mod one_input;
 mod open_and_add;
 mod prepared;
@@ -38,6 +39,7 @@ const fn test(name: &'static str, seed: u64, run: fn(&mut Rng) -> Outcome) -> Te
 const SUBJECTS: &[&[Test]] = &[
     figures::TESTS,
     listing::TESTS,
+    month_walk::TESTS,
     file_runs::TESTS,
     prepared::TESTS,
     windows::TESTS,
