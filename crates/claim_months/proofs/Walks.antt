@@ -7,7 +7,7 @@ use mathlib.Core.List.{List, [], _∷_}
 use lib.Dec.{leb, ltb}
 use borrow.Author.Tests.{lt-leb, ltb-true}
 use Rattle.basics.specs.Pick.{pick}
-use Rattle.basics.proofs.Tests.{tests, by}
+use Rattle.basics.proofs.Tests.{tests, pick-is}
 use Rattle.calendar.specs.Calendar.{lastDayNumber}
 use Rattle.claim_months.specs.declared.Claim.{Claim}
 use Rattle.claim_months.specs.Claim.{isClosed, claimCheck}
@@ -39,10 +39,7 @@ module _ (c : Claim) (ok : Sound c) (b e : ℕ) where
   walks zero k hk = refl
   walks (suc n) k hk =
       let next = walks n (suc k) (omega tests) in
-      by (ltb (exposedTo c e) (monthFirst c k))
-      (λ t. pick t [] (pick (meets c b e k) (monthRecord c b e k ∷ walkFrom c b e (suc k) n) (walkFrom c b e (suc k) n)) ≡ recordsFrom c b e k (suc n))
-      (λ q. sym (none (suc n) k k hk (omega tests) (ltb-true (exposedTo c e) (monthFirst c k) q)))
-      (λ q. ap (λ (r : List MonthRecord). pick (meets c b e k) (monthRecord c b e k ∷ r) r) next)
+      rw next (pick-is (ltb (exposedTo c e) (monthFirst c k)) (λ q. sym (none (suc n) k k hk (omega tests) (omega tests))) (λ q. refl))
 
 pub month-walks : MonthWalks
 unfolding monthRecords exposedTo

@@ -1,5 +1,5 @@
 -- Definitions that only the contracts of private functions cite: the checked value of a claim, what is worked out from it, and the rows of a listing.
-use Prim.Native.Nat.{ℕ, _+_, _-_, _*_, _≤_, min}
+use Prim.Native.Nat.{ℕ, _+_, _-_, _*_, _≤_, _<_, min}
 use mathlib.Core.Path.{_≡_}
 use mathlib.Core.Bool.{Bool, _&&_, _||_}
 use mathlib.Core.List.{List, _++_}
@@ -17,6 +17,7 @@ use Rattle.claim_months.specs.declared.CheckedClaim.{CheckedClaim}
 use Rattle.claim_months.specs.declared.Claim.{Claim}
 use Rattle.claim_months.specs.declared.ClaimDays.{ClaimDays}
 use Rattle.claim_months.specs.declared.ClaimMonth.{ClaimMonth}
+use Rattle.claim_months.specs.declared.ExposedMonths.{ExposedMonths}
 use Rattle.claim_months.specs.declared.Listed.{Listed}
 use Rattle.claim_months.specs.declared.Listed.the-variants.{Months, Refused}
 use Rattle.claim_months.specs.declared.MonthDay.{MonthDay}
@@ -148,12 +149,14 @@ pub record HoldsDay (c : Claim) (day : ℕ) (r : ClaimMonth) : Type 0 where
 abbrev pub HoldsFor : CheckedClaim → ℕ → ClaimMonth → Type 0
 HoldsFor k day r = (c : Claim) → Stands c k → HoldsDay c day r
 
--- the month records of a claim in a window with months, and their span
+-- the month records of a claim in a window with months
 abbrev pub recordsIn : Claim → MonthWindow → List MonthRecord
 recordsIn c w = monthRecords c (w .first .day .0) (w .last .day .0)
 
-abbrev pub SpanFor : CheckedClaim → MonthWindow → Span → Type 0
-SpanFor k w sp = (c : Claim) → Stands c k → sp ≡ spanOf (recordsIn c w)
+-- their span and, if there are any, the claim month that holds f
+pub record MonthsFor (k : CheckedClaim) (w : MonthWindow) (m : ExposedMonths) : Type 0 where
+  pub span-is : (c : Claim) → Stands c k → m .span ≡ spanOf (recordsIn c w)
+  pub begin-is : 0 < m .span .months → HoldsFor k (fromOf k (w .first) .day .0) (m .begin)
 
 -- ---- the rows of a listing
 

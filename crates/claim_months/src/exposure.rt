@@ -4,10 +4,11 @@ ghost use mathlib.Core.List.{[]};
 ghost use Prim.Native.Nat.{_+_, _≤_};
 ghost use Rattle.claim_months.specs.Exposure.{monthB};
 ghost use Rattle.claim_months.specs.Span.{spanOf, spanIn};
-ghost use Rattle.claim_months.specs.Private.{closedOf, laterOf, fromOf, toOf, closingOf, lastUOf, lastCategoryOf, OfClaim, SoundWindow, SpanFor};
+ghost use Rattle.claim_months.specs.Private.{closedOf, laterOf, fromOf, toOf, closingOf, lastUOf, lastCategoryOf, OfClaim, SoundWindow, MonthsFor};
 use crate::CheckedClaim;
 use crate::Claim;
 use crate::ClaimMonth;
+use crate::ExposedMonths;
 use crate::MaybeChecked;
 use crate::MaybeSpan;
 use crate::MonthDay;
@@ -125,24 +126,30 @@ fn last_category(claim: CheckedClaim, window: MonthWindow) -> u8
     0
 }
 
-// The span of a claim with no months in the window.
-fn no_months() -> Span
-    ensures { λ r. ⌜ r ≡ spanOf [] ⌝ }
+// No months in the window.
+fn no_months() -> ExposedMonths
+    ensures { λ r. ⌜ r .span ≡ spanOf [] ⌝ }
 {
-    Span {
+    let span = Span {
         first: Duration(0),
         months: 0,
         before: Thirtieths(0),
         through: Thirtieths(0),
         category: 0,
-    }
+    };
+    let begin = ClaimMonth {
+        place: 0,
+        first: Day(0),
+        last: Day(0),
+    };
+    ExposedMonths { span, begin }
 }
 
-// The span of a checked claim's months in a sound window.
-pub(crate) fn sound_span(claim: CheckedClaim, window: MonthWindow) -> Span
+// The months of a checked claim in a sound window.
+pub(crate) fn exposed_months(claim: CheckedClaim, window: MonthWindow) -> ExposedMonths
     requires { ⌜ OfClaim claim ⌝ }
     requires { ⌜ SoundWindow window ⌝ }
-    ensures { λ r. ⌜ SpanFor claim window r ⌝ }
+    ensures { λ r. ⌜ MonthsFor claim window r ⌝ }
 {
     let from = exposed_from(claim, window.first);
     let to = exposed_to(claim, window.last);
@@ -151,13 +158,14 @@ pub(crate) fn sound_span(claim: CheckedClaim, window: MonthWindow) -> Span
     }
     let begin = claim_month(claim, from);
     let end = claim_month(claim, to);
-    Span {
+    let span = Span {
         first: Duration(claim.first.0 + begin.place),
         months: end.place - begin.place + 1,
         before: month_b(window.first.day, begin),
         through: last_u(claim, window, end),
         category: last_category(claim, window),
-    }
+    };
+    ExposedMonths { span, begin }
 }
 
 // The span of a claim's months in a window, or the number refused.
@@ -168,7 +176,10 @@ pub fn span(claim: Claim, window: Window) -> MaybeSpan
         return MaybeSpan::Refused(refusal::WINDOW);
     }
     match checked(claim) {
-        MaybeChecked::Checked(sound) => MaybeSpan::Spanned(sound_span(sound, with_months(window))),
+        MaybeChecked::Checked(sound) => {
+            let span = exposed_months(sound, with_months(window)).span;
+            MaybeSpan::Spanned(span)
+        }
         MaybeChecked::Refused(refused) => MaybeSpan::Refused(refused),
     }
 }

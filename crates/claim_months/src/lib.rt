@@ -120,6 +120,12 @@ struct ClaimMonth {
     last: Day,
 }
 
+// The months of a claim in a window, as a span, and the claim month that holds the first exposed day: all zero if there are none.
+struct ExposedMonths {
+    span: Span,
+    begin: ClaimMonth,
+}
+
 // A month record of a listing, with thirtieths `upper` − `lower`.
 struct Row {
     duration: Duration,

@@ -6,9 +6,10 @@ ghost use lib.ListN.{length};
 ghost use lib.Seq.{sets};
 ghost use denote.Ref.{now};
 ghost use Rattle.claim_months.specs.Listing.{row, listingOf, listAfter};
-ghost use Rattle.claim_months.specs.Private.{RowBounds, recordOf, spanCategory, spanRecord, laterOf, Placed, OfClaim, SoundWindow, SpanFor, RowsFor, ListedFor};
+ghost use Rattle.claim_months.specs.Private.{RowBounds, recordOf, spanCategory, spanRecord, laterOf, Placed, OfClaim, SoundWindow, MonthsFor, RowsFor, ListedFor};
 use crate::CheckedClaim;
 use crate::Claim;
+use crate::ExposedMonths;
 use crate::Listed;
 use crate::MaybeChecked;
 use crate::MaybeWindow;
@@ -19,10 +20,9 @@ use crate::Span;
 use crate::Thirtieths;
 use crate::check::checked;
 use crate::exposure::exposed_from;
+use crate::exposure::exposed_months;
 use crate::exposure::exposed_to;
 use crate::exposure::later;
-use crate::exposure::sound_span;
-use crate::month::claim_month;
 use crate::month::start_in;
 use crate::windows::window;
 use crate::windows::with_months;
@@ -103,21 +103,22 @@ fn put_row(list: &mut [i32], at: usize, month: Row)
     list[at + 5] = signed(month.category as u32);
 }
 
-// Stores the month records of a window, of which `span` is the span, from the list's start on.
-fn put_rows(claim: CheckedClaim, window: MonthWindow, span: Span, list: &mut [i32])
+// Stores the records of a window's months, of which there are some, from the list's start on.
+fn put_rows(claim: CheckedClaim, window: MonthWindow, months: ExposedMonths, list: &mut [i32])
     requires { ⌜ OfClaim claim ⌝ }
     requires { ⌜ SoundWindow window ⌝ }
-    requires { ⌜ SpanFor claim window span ⌝ }
-    requires { ⌜ 6 * span .months ≤ length (now list) ⌝ }
+    requires { ⌜ MonthsFor claim window months ⌝ }
+    requires { ⌜ 0 < months .span .months ⌝ }
+    requires { ⌜ 6 * months .span .months ≤ length (now list) ⌝ }
     ensures { λ _. ⌜ RowsFor claim window (now (list .entry)) (now (list .exit)) ⌝ }
 {
+    let span = months.span;
     let from = exposed_from(claim, window.first);
     let to = exposed_to(claim, window.last).day;
-    let begin = claim_month(claim, from);
-    let day = begin.first;
+    let day = months.begin.first;
     let mut start = MonthDay {
         day,
-        month: claim.bcd.month + begin.place,
+        month: claim.bcd.month + months.begin.place,
     };
     let mut place: u32 = 0;
     while place < span.months {
@@ -138,11 +139,15 @@ fn list_checked(claim: CheckedClaim, window: MonthWindow, list: &mut [i32]) -> L
     requires { ⌜ SoundWindow window ⌝ }
     ensures { λ r. ⌜ ListedFor claim window (now (list .entry)) (now (list .exit)) r ⌝ }
 {
-    let span = sound_span(claim, window);
+    let months = exposed_months(claim, window);
+    let span = months.span;
+    if span.months == 0 {
+        return Listed::Months(0);
+    }
     if list.len() < 6 * span.months as usize {
         return Listed::Refused(refusal::SHORT_LIST);
     }
-    put_rows(claim, window, span, list);
+    put_rows(claim, window, months, list);
     Listed::Months(span.months)
 }
 

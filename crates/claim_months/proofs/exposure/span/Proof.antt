@@ -44,18 +44,19 @@ with-months-requires c κs = window-is (c .before .before .before .before)
 stands : (c : tie.After-known-told) → Stands (c .before .before .before .before .before .before .args .claim) (c .before .sound .given .0 .0)
 stands c = checked-known _ _ (sym (c .before .sound .given .1) ∙ c .before .before .before .checked .ensures)
 
-sound-span-requires : tie.Need-sound-span-requires
-sound-span-requires c κs =
+exposed-months-requires : tie.Need-exposed-months-requires
+exposed-months-requires c κs =
     let k = c .before in
     (record { claim = _; stands = stands k }, subst⁻¹ SoundWindow (c .with-months .ensures) (window-placed _ (window-is (k .before .before .before .before))))
 
 returns-2 : tie.Need-returns-2
 returns-2 c =
-    let m = c .before in
+    let r = c .before in
+    let m = r .before in
     let k = m .before in
     let s = stands k in
     let d = k .before .before .before .before .before .before .args .claim in
-    ap Spanned (c .sound-span .ensures _ s ∙ ap (λ (x : MonthWindow). spanOf (recordsIn d x)) (m .with-months .ensures))
+    ap Spanned (r .exposed-months .ensures .span-is _ s ∙ ap (λ (x : MonthWindow). spanOf (recordsIn d x)) (m .with-months .ensures))
     ∙ sym (spanned _ _ _ (window-is (k .before .before .before .before)) (s .passes))
 
 returns-3 : tie.Need-returns-3
@@ -67,5 +68,5 @@ returns-3 c =
 pub span-spec : {M : Type 1} → statement M
 span-spec =
     tie.close
-    (tie.spec (λ c κs. search needs) returns (λ c κs. search needs) (λ c. search needs) with-months-requires sound-span-requires (λ c. search needs)
+    (tie.spec (λ c κs. search needs) returns (λ c κs. search needs) (λ c. search needs) with-months-requires exposed-months-requires (λ c. search needs)
     returns-2 returns-3)

@@ -1,9 +1,10 @@
 -- `claim_months::listing::list_checked` meets its contract: the span counts the records, and the rows stand in a list with room for them.
 -- Assumes nothing.
 use Prim.Native.Nat.{ℕ, _*_, _≤_, _<_}
-use mathlib.Core.Path.{_≡_, ap, _∙_}
-use mathlib.Core.List.{List, _++_}
+use mathlib.Core.Path.{_≡_, refl, sym, ap, _∙_}
+use mathlib.Core.List.{List, [], _∷_, _++_}
 use native.Mathlib.Omega.{arith}
+use native.Mathlib.Nat.{mul-zero}
 use borrow.Author.Tests.{le-leb, lt-leb}
 use lib.IntN.{ℤ}
 use lib.ListN.{length, drop}
@@ -25,26 +26,48 @@ room : (rs : List MonthRecord) (old new : List ℤ) (n : ℕ) → n ≡ length r
     → new ≡ rows rs ++ drop (6 * length rs) old → ListedAs rs old new (Months n)
 room rs old new n c h e = record { answer = rw (le-leb (6 * length rs) (length old)) (ap Months c); list = rw (le-leb (6 * length rs) (length old)) e }
 
-count : (c : tie.After-sound-span) (d : Claim) → Stands d (c .before .args .claim) → c .sound-span .result .months ≡ length (recordsIn d (c .before .args .window))
-count c d s = ap (λ (sp : Span). sp .months) (c .sound-span .ensures d s) ∙ months-are _
+no-rows : (old : List ℤ) → old ≡ rows [] ++ drop (6 * 0) old
+unfolding rows
+no-rows old = ap (λ (i : ℕ). drop i old) (sym (mul-zero 6))
+
+none : (rs : List MonthRecord) (old : List ℤ) → length rs ≡ 0 → ListedAs rs old old (Months 0)
+none [] old h = room [] old old 0 refl (omega arith) (no-rows old)
+none (r ∷ rs) old h = absurd (omega arith)
+
+count : (c : tie.After-exposed-months) (d : Claim) → Stands d (c .before .args .claim) → c .exposed-months .result .span .months ≡ length (recordsIn d (c .before .args .window))
+count c d s = ap (λ (sp : Span). sp .months) (c .exposed-months .ensures .span-is d s) ∙ months-are _
 
 returns : tie.Need-returns
 returns c =
     λ d s.
-    let r = c .before .before in
+    let r = c .before .before .before in
     let a = r .before .args in
-    no-room (recordsIn d (a .window)) (a .list .now) (omega (arith, count r d s))
+    none (recordsIn d (a .window)) (a .list .now) (omega (arith, count r d s))
 
 returns-2 : tie.Need-returns-2
 returns-2 c =
     λ d s.
-    let p = c .before in
-    let e1 = p .before .before in
-    let r = e1 .before .before in
+    let r = c .before .before .before .before .before in
     let a = r .before .args in
-    room (recordsIn d (a .window)) (a .list .now) _ _ (count r d s) (omega (arith, e1 .if1 .left, count r d s)) (p .put-rows .ensures d s)
+    no-room (recordsIn d (a .window)) (a .list .now) (omega (arith, count r d s))
+
+put-rows-requires : tie.Need-put-rows-requires
+put-rows-requires c κs =
+    let e1 = c .before .before .before in
+    let r = e1 .before .before .before in
+    let p = r .before .pre in
+    (p .0, (p .1, (r .exposed-months .ensures, (omega arith, omega arith))))
+
+returns-3 : tie.Need-returns-3
+returns-3 c =
+    λ d s.
+    let p = c .before in
+    let e2 = p .before .before in
+    let r = e2 .before .before .before .before .before in
+    let a = r .before .args in
+    room (recordsIn d (a .window)) (a .list .now) _ _ (count r d s) (omega (arith, e2 .if2 .left, count r d s)) (p .put-rows .ensures d s)
 
 pub list-checked-spec : {M : Type 1} → statement M
 list-checked-spec =
     tie.close
-    (tie.spec (λ c κs. search needs) (λ c. search needs) (λ c. search needs) returns (λ c κs. search needs) (λ c. search needs) returns-2)
+    (tie.spec (λ c κs. search needs) returns (λ c. search needs) (λ c. search needs) returns-2 put-rows-requires (λ c. search needs) returns-3)

@@ -1,20 +1,23 @@
--- `claim_months::exposure::sound_span` meets its contract: the records run from the claim month that holds f to the one that holds l.
+-- `claim_months::exposure::exposed_months` meets its contract: the records run from the claim month that holds f to the one that holds l.
 -- Assumes nothing.
 use Prim.Native.Nat.{ℕ, _≤_}
-use mathlib.Core.Path.{_≡_, sym, ap, _∙_, subst⁻¹}
+use mathlib.Core.Path.{_≡_, sym, ap, _∙_, subst, subst⁻¹}
+use mathlib.Core.List.{[]}
 use native.Mathlib.Omega.{arith}
 use Rattle.claim_months.specs.declared.Claim.{Claim}
 use Rattle.claim_months.specs.declared.MonthDay.{MonthDay}
+use Rattle.claim_months.specs.declared.Span.{Span}
 use Rattle.claim_months.specs.Exposure.{exposedFrom, exposedTo}
 use Rattle.claim_months.specs.Span.{spanOf}
-use Rattle.claim_months.specs.Private.{Placed, Stands}
+use Rattle.claim_months.specs.Private.{Placed, Stands, HoldsDay}
 use Rattle.claim_months.proofs.MonthRuns.{records-none}
 use Rattle.claim_months.proofs.Spans.{first-duration}
 use Rattle.claim_months.proofs.Checked.{later-day, claim-sound, first-is, from-is, from-placed, to-is, to-placed, last-u-is, last-category-is}
+use Rattle.claim_months.proofs.Rows.{months-are}
 use Rattle.claim_months.proofs.SpanCode.{SpanEnds, month-days, places-ordered, place-high, code-span}
 use borrow.Author.Needs.{needs}
-use Rattle.claim_months.proofs.exposure.sound_span.Statement.{statement}
-use Rattle.claim_months.proofs.exposure.sound_span.Tie as tie
+use Rattle.claim_months.proofs.exposure.exposed_months.Statement.{statement}
+use Rattle.claim_months.proofs.exposure.exposed_months.Tie as tie
 
 abbrev day : MonthDay → ℕ
 day x = x .day .0
@@ -28,11 +31,15 @@ to c d s = ap day (c .exposed-to .ensures) ∙ to-is d _ s (c .before .before .a
 
 returns : tie.Need-returns
 returns c =
-    λ d s.
     let t = c .before .before .before .before in
     let w = t .before .before .args .window in
-    c .no-months .ensures
-    ∙ sym (ap spanOf (records-none d (claim-sound d _ s) (day (w .first)) (day (w .last)) (omega (arith, from (t .before) d s, to t d s))))
+    let none = ap (λ (sp : Span). sp .months) (c .no-months .ensures) ∙ months-are [] in
+    record {
+      span-is = λ d s.
+          c .no-months .ensures
+          ∙ sym (ap spanOf (records-none d (claim-sound d _ s) (day (w .first)) (day (w .last)) (omega (arith, from (t .before) d s, to t d s))));
+      begin-is = λ h. absurd (omega arith);
+    }
 
 f-placed : (c : tie.After-exposed-from) → Placed (c .exposed-from .result)
 f-placed c =
@@ -86,19 +93,19 @@ ends c d s =
 span-ends : (c : tie.After-claim-month2) → EndsAt c (c .before .before .before .before .before .before .before .pre .0 .claim)
 span-ends c = ends c _ (c .before .before .before .before .before .before .before .pre .0 .stands)
 
-add-t8 : tie.Need-add-t8
-add-t8 c =
+add-t9 : tie.Need-add-t9
+add-t9 c =
     let m = c .before .before in
     let s = m .before .before .before .before .before .before .before in
     let o = s .pre .0 in
     let r = ends m _ (o .stands) in
     omega (arith, first-is _ _ (o .stands), first-duration _ (r .sound) .1, places-ordered _ _ _ _ _ _ _ r, place-high _ _ _ _ _ _ _ r)
 
-sub-t10 : tie.Need-sub-t10
-sub-t10 c = places-ordered _ _ _ _ _ _ _ (span-ends (c .before .before .before .before))
+sub-t11 : tie.Need-sub-t11
+sub-t11 c = places-ordered _ _ _ _ _ _ _ (span-ends (c .before .before .before .before))
 
-add-t11 : tie.Need-add-t11
-add-t11 c = omega (arith, place-high _ _ _ _ _ _ _ (span-ends (c .before .before .before .before)))
+add-t12 : tie.Need-add-t12
+add-t12 c = omega (arith, place-high _ _ _ _ _ _ _ (span-ends (c .before .before .before .before)))
 
 month-b-requires : tie.Need-month-b-requires
 month-b-requires c κs =
@@ -116,19 +123,24 @@ last-u-requires c κs =
 
 returns-2 : tie.Need-returns-2
 returns-2 c =
-    λ d s.
     let u = c .before in
     let b = u .before in
     let m = b .before .before .before .before .before in
-    let w = m .before .before .before .before .before .before .before .args .window in
-    let r = ends m d s in
+    let f = m .before .before .before .before .before .before in
+    let w = f .before .args .window in
+    let x = m .before .claim-month .result in
     let y = m .claim-month2 .result in
-    code-span _ _ _ _ _ _ _ r _ _ _ _ _ (first-is d _ s) (omega arith) (b .month-b .ensures)
-    (u .last-u .ensures ∙ last-u-is d _ s w (y .first .0) (y .last .0) (omega (arith, r .end .to, r .to)))
-    (c .last-category .ensures ∙ last-category-is d _ s w (y .first .0) (y .last .0) (omega (arith, r .end .from, r .to)) (omega (arith, r .end .to, r .to)))
+    record {
+      span-is = λ d s.
+          let r = ends m d s in
+          code-span _ _ _ _ _ _ _ r _ _ _ _ _ (first-is d _ s) (omega arith) (b .month-b .ensures)
+          (u .last-u .ensures ∙ last-u-is d _ s w (y .first .0) (y .last .0) (omega (arith, r .end .to, r .to)))
+          (c .last-category .ensures ∙ last-category-is d _ s w (y .first .0) (y .last .0) (omega (arith, r .end .from, r .to)) (omega (arith, r .end .to, r .to)));
+      begin-is = λ h d s. subst (λ (z : MonthDay). HoldsDay d (day z) x) (f .exposed-from .ensures) (m .before .claim-month .ensures d s);
+    }
 
-pub sound-span-spec : {M : Type 1} → statement M
-sound-span-spec =
+pub exposed-months-spec : {M : Type 1} → statement M
+exposed-months-spec =
     tie.close
-    (tie.spec (λ c κs. search needs) (λ c κs. search needs) (λ c κs. search needs) returns claim-month-requires claim-month-requires-2 add-t8 sub-t10
-    add-t11 month-b-requires last-u-requires (λ c κs. search needs) returns-2)
+    (tie.spec (λ c κs. search needs) (λ c κs. search needs) (λ c κs. search needs) returns claim-month-requires claim-month-requires-2 add-t9 sub-t11
+    add-t12 month-b-requires last-u-requires (λ c κs. search needs) returns-2)
