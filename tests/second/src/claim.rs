@@ -9,6 +9,8 @@ pub const DEATH: u8 = 2;
 pub const SETTLEMENT: u8 = 3;
 pub const MAX_OUT: u8 = 4;
 pub const LIMIT: u8 = 5;
+/// A code alone: its category is recovery.
+pub const CHANGE_OF_DEFINITION: u8 = 6;
 
 pub const OPEN: u8 = 0;
 pub const CLOSED: u8 = 1;
@@ -72,7 +74,7 @@ impl Claim {
         // 3
         let sound = match self.status {
             OPEN => self.code == 0 && self.termination.is_missing(),
-            CLOSED => (RECOVERY..=LIMIT).contains(&self.code),
+            CLOSED => (RECOVERY..=CHANGE_OF_DEFINITION).contains(&self.code),
             _ => false,
         };
         if !sound {
@@ -117,10 +119,12 @@ fn first_duration(elimination_period: i32) -> Duration {
     Duration((elimination_period as u32 + 15) / 30 + 1)
 }
 
-/// The code, but max-out if the termination date is 45 days or less before or after a known maximum date.
+/// The code, but recovery for a change of definition, and max-out if the termination date is 45 days or less before or after a known
+/// maximum date.
 fn category(code: u8, termination: Day, maximum: Option<Day>) -> u8 {
     match maximum {
         Some(maximum) if (termination - maximum).abs() <= 45 => MAX_OUT,
+        _ if code == CHANGE_OF_DEFINITION => RECOVERY,
         _ => code,
     }
 }

@@ -2,7 +2,7 @@
 
 use crate::block::{seal, write_block, write_window, BLOCK_LENGTH, MOST_IN_BLOCK};
 use crate::calendar::{month_length, Date, Day};
-use crate::claim::{Claim, CLOSED};
+use crate::claim::{Claim, CHANGE_OF_DEFINITION, CLOSED, RECOVERY};
 use crate::examples::STUDY_WINDOW;
 use crate::rates::{CELL_LENGTH, DURATIONS};
 use crate::rng::Rng;
@@ -15,6 +15,11 @@ fn day_between(rng: &mut Rng, low: i32, high: i32) -> Day {
 
 fn any_day(rng: &mut Rng) -> Day {
     day_between(rng, 0, Day::LAST.0)
+}
+
+/// The code of a closed claim.
+pub fn any_code(rng: &mut Rng) -> u8 {
+    rng.range(RECOVERY as i64, CHANGE_OF_DEFINITION as i64) as u8
 }
 
 /// A claim that passes checks 2 to 5: anywhere in the calendar, in the study's years, near the end of a month, or around February.
@@ -45,7 +50,7 @@ pub fn sound_claim(rng: &mut Rng) -> Claim {
         near = day_between(rng, bcd.0, bcd.0 + longest);
         claim.termination = near.date();
         claim.status = CLOSED;
-        claim.code = rng.range(1, 5) as u8;
+        claim.code = any_code(rng);
     }
     claim.maximum = match rng.below(4) {
         0 => Date::MISSING,
@@ -104,7 +109,7 @@ pub fn damage_claim(rng: &mut Rng, claim: &mut Claim) {
             2 => claim.termination = wild_date(rng),
             3 => claim.maximum = wild_date(rng),
             4 => claim.status = rng.pick(&[0, 1, 2, 3, 128, 255]),
-            5 => claim.code = rng.pick(&[0, 1, 2, 3, 4, 5, 6, 255]),
+            5 => claim.code = rng.pick(&[0, 1, 2, 3, 4, 5, 6, 7, 255]),
             6 => {
                 // An elimination period near the least, or negative.
                 let bcd = claim.bcd.day_number().unwrap_or(Day(20_000)).0;

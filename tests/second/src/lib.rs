@@ -1,5 +1,5 @@
-//! A second implementation of document 01, written from that paper alone. The tests compare the first implementation with it, and the
-//! benchmark measures against it.
+//! A second implementation of documents 01 and 02, written from these papers alone. The tests compare the first implementation with it, and
+//! the benchmark measures against it.
 //!
 //! Layers as in the paper: `calendar`, `claim` and `months`, `study`, `valuation`; beside them the lent `rates`, the claim file (`block`,
 //! `run`) and what the program prints (`report`); `examples`, `generate`, `load` and `rng` make inputs for tests and measurements.

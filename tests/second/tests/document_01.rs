@@ -6,7 +6,7 @@ use second::block::{
 use second::calendar::{month_length, ClaimMonths, Date, Day};
 use second::claim::{Claim, CLOSED, DEATH, LIMIT, MAX_OUT, OPEN, RECOVERY, SETTLEMENT};
 use second::examples::{closed_claim, date, day, flat_rates, open_claim, rows_in, with_elimination, STUDY_WINDOW};
-use second::generate::claim_file;
+use second::generate::{any_code, claim_file};
 use second::months::{listing, Window};
 use second::rates::{RateTable, CELL_LENGTH};
 use second::report::{decode_rates, report};
@@ -147,8 +147,9 @@ fn claim_checks_in_their_order() {
         (Claim { status: OPEN, termination: Date::MISSING, ..sound }, Some(3)),
         (Claim { status: OPEN, code: 0, termination: Date::MISSING, ..sound }, None),
         (Claim { code: 0, ..sound }, Some(3)),
-        (Claim { code: 6, disability: date("2011-02-11"), ..sound }, Some(3)),
+        (Claim { code: 7, disability: date("2011-02-11"), ..sound }, Some(3)),
         (Claim { code: 5, ..sound }, None),
+        (Claim { code: 6, ..sound }, None),
         (Claim { disability: date("2011-02-11"), ..sound }, Some(4)),
         (Claim { disability: date("2011-02-10"), ..sound }, Some(5)),
         (Claim { disability: date("2011-02-01"), termination: date("2011-02-09"), ..sound }, Some(4)),
@@ -244,7 +245,7 @@ fn random_claim(rng: &mut Rng) -> Claim {
         let most = if rng.one_in(2) { 62 } else { 4_000 };
         let termination = Day((bcd.0 + rng.range(0, most) as i32).min(54_786));
         claim.status = CLOSED;
-        claim.code = rng.range(1, 5) as u8;
+        claim.code = any_code(rng);
         claim.termination = termination.date();
         if rng.one_in(3) {
             claim.maximum = Day((termination.0 + rng.range(-50, 50) as i32).clamp(0, 54_786)).date();
@@ -273,7 +274,7 @@ fn months_by_the_letter() {
         let closed_in_window = t.is_some_and(|t| b <= t && t <= e);
         let (f, l) = (bcd.max(b), t.map_or(e, |t| e.min(t)));
         let max_out = matches!((t, claim.maximum.day_number()), (Some(t), Some(max)) if (t - max.0).abs() <= 45);
-        let category = if max_out { MAX_OUT } else { claim.code };
+        let category = if max_out { MAX_OUT } else { [0, 1, 2, 3, 4, 5, 1][claim.code as usize] };
         let first_duration = (bcd - claim.disability.day_number().unwrap().0 + 15) / 30 + 1;
 
         let months = ClaimMonths::of(claim.bcd);
@@ -576,7 +577,7 @@ fn refused_runs() {
 
     // The 18th claim is the third of block 2; the claims before it stay in.
     let mut claims = vec![sound; 20];
-    claims[17].code = 6;
+    claims[17].code = 7;
     let mut file = claim_file((first, last), &claims, None);
     let run = run_file(&file, &rates);
     assert_eq!(printed(&run), "refused 3 block 2 claim 3\n");

@@ -1,7 +1,12 @@
 //! The second implementation against the change requests of document 02, each with its own examples.
 
-use second::claim::{Claim, SETTLEMENT};
-use second::examples::{closed_claim, date, rows_in};
+use second::claim::{Claim, CHANGE_OF_DEFINITION, MAX_OUT, RECOVERY, SETTLEMENT};
+use second::examples::{closed_claim, date, day, flat_rates, rows_in, STUDY_WINDOW};
+use second::generate::claim_file;
+use second::report::report;
+use second::run::run_file;
+use second::valuation::factor;
+use second::Refusal;
 
 // No. 2: the walk over a claim's months ends with the exposure.
 
@@ -13,4 +18,28 @@ fn a_claim_closed_in_its_second_year_has_23_months_wherever_it_lies() {
         let rows = rows_in("1950-01-01", "2099-12-31", &claim).unwrap();
         assert_eq!((rows.len(), rows[0][0], rows[22][0], rows[22][3], rows[22][5]), (23, 2, 24, 11, SETTLEMENT as i32));
     }
+}
+
+// No. 6: a closing at the change of definition.
+
+#[test]
+fn a_change_of_definition_is_a_recovery_with_a_full_month() {
+    let claim = closed_claim("2008-01-10", "2012-05-20", CHANGE_OF_DEFINITION);
+    let last = |claim: &Claim| *rows_in("2009-01-01", "2017-12-31", claim).unwrap().last().unwrap();
+    assert_eq!([3, 5].map(|i| last(&claim)[i]), [30, RECOVERY as i32]);
+    // Within 45 days of the maximum date still max-out.
+    for (days, thirtieths, category) in [(-46, 30, RECOVERY), (-45, 11, MAX_OUT), (45, 11, MAX_OUT), (46, 30, RECOVERY)] {
+        let claim = Claim { maximum: (day("2012-05-20") + days).date(), ..claim };
+        assert_eq!([3, 5].map(|i| last(&claim)[i]), [thirtieths, category as i32]);
+    }
+    assert_eq!(rows_in("2009-01-01", "2017-12-31", &Claim { code: 7, ..claim }), Err(Refusal::Status));
+}
+
+#[test]
+fn a_change_of_definition_counts_in_c() {
+    let claim = Claim { disability: date("2009-03-13"), ..closed_claim("2009-06-11", "2012-04-29", CHANGE_OF_DEFINITION) };
+    let numbers = |code: u8| run_file(&claim_file(STUDY_WINDOW, &[Claim { code, ..claim }], None), &flat_rates(10_000, 5_000)).numbers();
+    assert_eq!(numbers(CHANGE_OF_DEFINITION), numbers(RECOVERY));
+    assert!(report(&numbers(CHANGE_OF_DEFINITION), |group, c, e| factor(group, c, e).unwrap())
+        .contains("\n3 420 1 0 0 0 0 4200000 2100000 1027931\n"));
 }

@@ -237,17 +237,17 @@ impl Walked {
 /// The months of a claim closed in its second year, at the start of the calendar and at its end.
 fn walk() -> Result<(), String> {
     let (early, late) = (Walked::new(1950), Walked::new(2098));
-    let runs: [(&str, fn(&Walked) -> Timed); 2] = [("listings", Walked::listings), ("additions", Walked::additions)];
     println!("\nEP 30, in the window 1950-01-01 to 2099-12-31, best of {SHORT_TURNS} turns:\n");
     println!(
         "| calls | BCD 1950-02-10, settled 1951-12-20 | BCD 2098-02-10, settled 2099-12-20 | ratio (at most 2 asked, 1.2 our own bar) |"
     );
     println!("|---|---|---|---|");
-    for (calls, run) in runs {
+    let row = |calls: &str, run: fn(&Walked) -> Timed| {
         let [early, late] = best(SHORT_TURNS, [&|| run(&early), &|| run(&late)])?;
         println!("| {} {calls} | {:.3} ms | {:.3} ms | {:.3} |", grouped(WALKS as f64), early * 1e3, late * 1e3, early / late);
-    }
-    Ok(())
+        Ok(())
+    };
+    row("listings", Walked::listings).and_then(|()| row("additions", Walked::additions))
 }
 
 /// A whole number with its thousands apart.

@@ -3,7 +3,7 @@
 
 use second::block::{seal, write_block, BLOCK_LENGTH};
 use second::calendar::Date;
-use second::claim::{Claim, CLOSED, OPEN, RECOVERY, SETTLEMENT};
+use second::claim::{Claim, CHANGE_OF_DEFINITION, CLOSED, OPEN, RECOVERY, SETTLEMENT};
 use second::examples::STUDY_WINDOW as WINDOW;
 use second::generate::{claim_file, damage_claim, damage_file, damage_rates, sound_claim, sound_rates, sound_window};
 use second::rates::{CELL_LENGTH, DURATIONS};
@@ -91,6 +91,7 @@ fn claim_files() -> Vec<(&'static str, Vec<u8>)> {
     let calendar = (Date::new(1950, 1, 1), Date::new(2099, 12, 31));
     vec![
         ("example", of(&[EXAMPLE])),
+        ("change_of_definition", of(&[Claim { code: CHANGE_OF_DEFINITION, ..EXAMPLE }])),
         ("twenty", twenty.clone()),
         ("refused_claim", of(&refused_claim)),
         ("refused_block", refused_block),

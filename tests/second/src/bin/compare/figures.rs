@@ -165,7 +165,7 @@ fn refusal_lines(_: &mut Rng) -> Outcome {
         (vec![0; 512], &rates, "refused 1 block 0 claim 0\n"),
         (claim_file((last, first), &[sound], None), &rates, "refused 1 block 0 claim 0\n"),
         (eighteenth(Claim { bcd: date("2001-02-29"), ..sound }), &rates, "refused 2 block 2 claim 3\n"),
-        (eighteenth(Claim { code: 6, ..sound }), &rates, "refused 3 block 2 claim 3\n"),
+        (eighteenth(Claim { code: 7, ..sound }), &rates, "refused 3 block 2 claim 3\n"),
         (eighteenth(Claim { disability: date("2009-06-12"), ..sound }), &rates, "refused 4 block 2 claim 3\n"),
         (eighteenth(Claim { disability: date("2009-05-28"), ..sound }), &rates, "refused 5 block 2 claim 3\n"),
         (claim_file(STUDY_WINDOW, &[sound], None), &[], "refused 6 block 1 claim 1\n"),

@@ -5,8 +5,8 @@ use crate::one_input::{compare_listing, compare_record_listing, same, Answer, LO
 use crate::{test, Outcome, Test};
 use second::block::{claim_record, CLAIM_LENGTH, ZEROS_AT};
 use second::calendar::{Date, Day};
-use second::claim::{Claim, CLOSED, LIMIT};
-use second::generate::{damage_claim, sound_claim, sound_window, wild_date};
+use second::claim::{Claim, CLOSED};
+use second::generate::{any_code, damage_claim, sound_claim, sound_window, wild_date};
 use second::months::listing;
 use second::rng::Rng;
 
@@ -60,7 +60,7 @@ fn all_closings(rng: &mut Rng) -> Outcome {
                 bcd: bcd.date(),
                 termination: termination.date(),
                 status: CLOSED,
-                code: rng.range(1, LIMIT as i64) as u8,
+                code: any_code(rng),
                 ..Claim::default()
             };
             // Whole, up to a cut, and from the cut on.
@@ -113,7 +113,7 @@ fn wild(rng: &mut Rng) -> Outcome {
             termination: wild_date(rng),
             maximum: wild_date(rng),
             status: if rng.one_in(4) { rng.bits() as u8 } else { rng.below(2) as u8 },
-            code: if rng.one_in(4) { rng.bits() as u8 } else { rng.below(7) as u8 },
+            code: if rng.one_in(4) { rng.bits() as u8 } else { rng.below(8) as u8 },
             cell: rng.bits() as u8,
         };
         let (first, last) = if rng.one_in(4) { (wild_date(rng), wild_date(rng)) } else { sound_window(rng, &claim) };

@@ -4,6 +4,7 @@
 //! Run: LTD_LIB_DIR=(the directory of libc_abi.a) cargo run --release --features first --bin compare
 
 mod blocks;
+mod codes;
 mod figures;
 mod file_runs;
 mod inputs;
@@ -40,6 +41,7 @@ const SUBJECTS: &[&[Test]] = &[
     figures::TESTS,
     listing::TESTS,
     month_walk::TESTS,
+    codes::TESTS,
     file_runs::TESTS,
     prepared::TESTS,
     windows::TESTS,

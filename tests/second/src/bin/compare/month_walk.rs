@@ -5,8 +5,8 @@ use crate::one_input::{compare_add, compare_listing, compare_open, same};
 use crate::{test, Outcome, Test};
 use second::block::claim_record;
 use second::calendar::{ClaimMonths, Date, Day};
-use second::claim::{Claim, CLOSED, LIMIT, OPEN, RECOVERY, SETTLEMENT};
-use second::generate::{sound_rates, sound_window};
+use second::claim::{Claim, CLOSED, OPEN, RECOVERY, SETTLEMENT};
+use second::generate::{any_code, sound_rates, sound_window};
 use second::rng::Rng;
 use second::study::STUDY_LENGTH;
 
@@ -64,7 +64,7 @@ fn walked(rng: &mut Rng) -> ((Date, Date), Claim) {
     if let Some(t) = settled {
         claim.termination = t.date();
         claim.status = CLOSED;
-        claim.code = if rng.one_in(2) { SETTLEMENT } else { rng.range(RECOVERY as i64, LIMIT as i64) as u8 };
+        claim.code = if rng.one_in(2) { SETTLEMENT } else { any_code(rng) };
     }
     ((first.date(), last.date()), claim)
 }

@@ -16,6 +16,7 @@ use std::fmt::{Debug, Write as _};
 /// What an answer of 64 bits has more than the number refused.
 pub const REFUSED: u64 = 1 << 32;
 /// Numbers of document 01's table.
+pub const STATUS: u8 = 3;
 pub const RATE_TABLE: u8 = 6;
 pub const CELL: u8 = 7;
 pub const RATE: u8 = 8;
