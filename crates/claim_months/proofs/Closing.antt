@@ -46,7 +46,9 @@ code-range c ok z =
     let l = ok .code-low z in
     let u = ok .code-high z in
     by (not (isMissing (c .maximum)) && withinDays 45 (terminationDay c) (dayNumber (c .maximum)))
-    (λ y. (1 ≤ pick y 4 (c .code)) × (pick y 4 (c .code) ≤ 5)) (λ _. omega tests) (λ _. omega tests)
+    (λ y. let x = pick y 4 (pick (eqb (c .code) 6) 1 (c .code)) in (1 ≤ x) × (x ≤ 5)) (λ _. omega tests)
+    (λ _.
+    by (eqb (c .code) 6) (λ y. let x = pick y 1 (c .code) in (1 ≤ x) × (x ≤ 5)) (λ q. omega tests) (λ q. omega tests))
 
 -- claim month k's part in a sum over closing months
 abbrev closingShare : (ℕ → ℕ → ℕ) → Claim → ℕ → ℕ → ℕ → ℕ

@@ -22,7 +22,7 @@ pub record Sound (c : Claim) : Type 0 where
   pub bcd-first : isClosed c ≡ true → bcdDay c ≤ terminationDay c
   pub termination-missing : isClosed c ≡ false → isMissing (c .termination) ≡ true
   pub code-low : isClosed c ≡ true → 1 ≤ c .code
-  pub code-high : isClosed c ≡ true → c .code ≤ 5
+  pub code-high : isClosed c ≡ true → c .code ≤ 6
   pub ep-low : 15 ≤ ep c
 
 -- what is asked of closed claims only
@@ -88,7 +88,7 @@ of-tests c d s q p =
     let k = dates c d in
     let o = sequence c q in
     let low = leb 1 (c .code) in
-    let high = leb (c .code) 5 in
+    let high = leb (c .code) 6 in
     let open-sound = eqb (c .code) 0 && isMissing (c .termination) in
     let status = and-right (leb (c .status) 1) (pick z (low && high) open-sound) s in
     let codes = closed-code z (low && high) open-sound status in

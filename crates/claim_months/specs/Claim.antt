@@ -35,9 +35,12 @@ firstDuration c = (ep c + 15) / 30 + 1
 abbrev pub withinDays : ℕ → ℕ → ℕ → Bool
 withinDays n a b = leb a (b + n) && leb b (a + n)
 
--- The category: the code, but max-out (4) if the termination date is 45 days or less before or after a known maximum date
+-- The category: max-out (4) if the termination date is 45 days or less before or after a known maximum date; else recovery (1) for code 6,
+-- change of definition; else the code
 unfoldable pub category : Claim → ℕ
-category c = pick (not (isMissing (c .maximum)) && withinDays 45 (terminationDay c) (dayNumber (c .maximum))) 4 (c .code)
+category c =
+    pick (not (isMissing (c .maximum)) && withinDays 45 (terminationDay c) (dayNumber (c .maximum))) 4
+    (pick (eqb (c .code) 6) 1 (c .code))
 
 -- 2, date: disability or BCD no date; closed and termination no date; maximum neither date nor missing
 unfoldable pub datesSound : Claim → Bool
@@ -45,11 +48,11 @@ datesSound c =
     isDate (c .disability) && isDate (c .bcd) && (not (isClosed c) || isDate (c .termination))
     && (isDate (c .maximum) || isMissing (c .maximum))
 
--- 3, status: status above 1; open with a code, or with a termination that isn't missing; closed with code outside 1–5
+-- 3, status: status above 1; open with a code, or with a termination that isn't missing; closed with code outside 1–6
 unfoldable pub statusSound : Claim → Bool
 statusSound c =
     leb (c .status) 1
-    && pick (isClosed c) (leb 1 (c .code) && leb (c .code) 5) (eqb (c .code) 0 && isMissing (c .termination))
+    && pick (isClosed c) (leb 1 (c .code) && leb (c .code) 6) (eqb (c .code) 0 && isMissing (c .termination))
 
 -- 4, sequence: BCD before disability, or termination before BCD
 unfoldable pub sequenceSound : Claim → Bool

@@ -1,5 +1,5 @@
 -- What the claim-month layer means: document 01's sections Calendar (claim months), Claim and Months of exposure.
--- `ClaimFigures`: the statement of its figures. `Private`: what only the contracts of private functions cite.
+-- `ChangeOfDefinition`: document 02's code 6. `ClaimFigures`: the statement of its figures. `Private`: what only the contracts of private functions cite.
 pub mod Claim
 pub mod ClaimMonths
 pub mod Exposure
@@ -7,5 +7,6 @@ pub mod Walk
 pub mod Span
 pub mod Windows
 pub mod Listing
+pub mod ChangeOfDefinition
 pub mod ClaimFigures
 pub mod Private

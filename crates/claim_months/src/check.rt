@@ -75,7 +75,7 @@ fn status_sound(claim: Claim) -> bool
         if claim.code < 1 {
             return false;
         }
-        return claim.code <= 5;
+        return claim.code <= 6;
     }
     if claim.code != 0 {
         return false;

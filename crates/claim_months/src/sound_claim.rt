@@ -2,6 +2,7 @@
 ghost use mathlib.Core.Path.{_≡_};
 ghost use mathlib.Core.Bool.{true};
 ghost use Prim.Native.Nat.{_+_, _-_, _/_, _≤_};
+ghost use lib.Dec.{eqb};
 ghost use Rattle.basics.specs.Pick.{pick};
 ghost use Rattle.calendar.specs.Calendar.{isDate, monthIndex, lastDayNumber};
 ghost use Rattle.claim_months.specs.Claim.{withinDays, isClosed, category, claimCheck};
@@ -16,6 +17,11 @@ use crate::month::known_day;
 use basics::Duration;
 use calendar::Date;
 use calendar::Day;
+
+// The code of a closing at the change of definition, and the category that it has.
+const CHANGE_OF_DEFINITION: u8 = 6;
+
+const RECOVERY: u8 = 1;
 
 // The category of a claim closed near its maximum date.
 const MAX_OUT: u8 = 4;
@@ -61,6 +67,19 @@ fn near(termination: Day, maximum: Day) -> bool
     maximum.0 <= termination.0 + 45
 }
 
+// The category by the code, and by whether the claim reached its maximum date.
+fn category_of(code: u8, reached: bool) -> u8
+    ensures { λ r. ⌜ r ≡ pick reached 4 (pick (eqb code 6) 1 code) ⌝ }
+{
+    if reached {
+        return MAX_OUT;
+    }
+    if code == CHANGE_OF_DEFINITION {
+        return RECOVERY;
+    }
+    code
+}
+
 // The category of a closed claim, 0 of an open one.
 fn claim_category(claim: Claim, days: ClaimDays) -> u8
     requires { ⌜ claimCheck claim ≡ 0 ⌝ }
@@ -71,12 +90,9 @@ fn claim_category(claim: Claim, days: ClaimDays) -> u8
         return 0;
     }
     if is_missing(claim.maximum) {
-        return claim.code;
+        return category_of(claim.code, false);
     }
-    if near(days.termination, days.maximum) {
-        return MAX_OUT;
-    }
-    claim.code
+    category_of(claim.code, near(days.termination, days.maximum))
 }
 
 // The termination of a closed claim, and zero, which is what a missing date gives, of an open one.

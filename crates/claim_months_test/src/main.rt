@@ -79,12 +79,14 @@ fn cut_months() {
     show(20110216, 20171231, claim);
 }
 
-// A recovery 45 and 46 days before and after the maximum date; the other codes.
+// A recovery 45 and 46 days before and after the maximum date, a change of definition 45 and 46 days before it; the other codes.
 fn reclassed() {
-    recovered(20120525);
-    recovered(20120526);
-    recovered(20120225);
-    recovered(20120224);
+    ended(20120525, 1);
+    ended(20120526, 1);
+    ended(20120225, 1);
+    ended(20120224, 1);
+    ended(20120525, 6);
+    ended(20120526, 6);
     spring(2012, closed(20110205, 20120410, 2));
     spring(2012, closed(20110205, 20120410, 4));
     spring(2012, closed(20110205, 20120410, 5));
@@ -150,7 +152,7 @@ fn bad_statuses() {
     spring(2011, claim(day, bcd, 0, 0, 0, 1));
     spring(2011, claim(day, bcd, end, 0, 0, 0));
     spring(2011, claim(day, bcd, end, 0, 1, 0));
-    spring(2011, claim(day, bcd, end, 0, 1, 6));
+    spring(2011, claim(day, bcd, end, 0, 1, 7));
 }
 
 fn bad_sequences() {
@@ -173,10 +175,13 @@ fn lists() {
     show_in(5, first, last, open(20110129, 14));
 }
 
-// A claim of EP 90, recovered on 2012-04-10, with a maximum date.
-fn recovered(maximum: u32) {
+// A claim of EP 90, closed on 2012-04-10, with a maximum date.
+fn ended(maximum: u32, code: u8) {
     let disability = days_before(20110205, 90);
-    spring(2012, claim(disability, 20110205, 20120410, maximum, 1, 1));
+    spring(
+        2012,
+        claim(disability, 20110205, 20120410, maximum, 1, code),
+    );
 }
 
 // An open claim with an elimination period in days.

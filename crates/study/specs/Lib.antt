@@ -2,5 +2,6 @@
 pub mod Sums
 pub mod Study
 pub mod PreparedAdding
+pub mod DefinitionChange
 pub mod Demand3
 pub mod Private

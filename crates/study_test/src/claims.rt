@@ -82,7 +82,8 @@ pub(crate) fn claim(place: u32) -> Claim {
         19 => with_cell(20091012, 20100110, 2),
         20 => with_cell(20091012, 20100110, 1),
         21 => with_status(20091012, 20100110, 20110110, 0, 0),
-        // The second claim once more.
-        _ => closed(20090313, 20090611, 20120429, 1),
+        // The second claim once more; past the list, the same closed at the change of definition.
+        22 => closed(20090313, 20090611, 20120429, 1),
+        _ => closed(20090313, 20090611, 20120429, 6),
     }
 }

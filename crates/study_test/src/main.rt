@@ -24,6 +24,7 @@ fn main() {
     divided(&table);
     long(&table);
     negative(&table);
+    changed(&table);
     edges(&table);
 }
 
@@ -160,15 +161,20 @@ fn put_yes(yes: bool) {
 
 // One claim alone, settled on the second part's first day: 8 and -1 thirtieths, and together 7.
 fn negative(table: &[u32; 1916]) {
-    alone(20090101, 20110215, table);
-    alone(20110216, 20171231, table);
-    alone(20090101, 20171231, table);
+    alone(20090101, 20110215, 3, table);
+    alone(20110216, 20171231, 3, table);
+    alone(20090101, 20171231, 3, table);
 }
 
-fn alone(first: u32, last: u32, table: &[u32; 1916]) {
+// The claim past the list, closed at the change of definition: a full last month, and a recovery.
+fn changed(table: &[u32; 1916]) {
+    alone(20090101, 20171231, CLAIMS, table);
+}
+
+fn alone(first: u32, last: u32, place: u32, table: &[u32; 1916]) {
     put_window(first, last);
     put(b" claim");
-    let study = added(opened(first, last), 3, table);
+    let study = added(opened(first, last), place, table);
     put(b"\n");
     put_groups(&figures(study));
 }

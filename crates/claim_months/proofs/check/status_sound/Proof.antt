@@ -16,7 +16,7 @@ returns : tie.Need-returns
 unfolding statusSound
 returns c = simp (lt-leb (c .before .before .args .claim .status) 1 (omega arith))
 
-of-closed : (c : Claim) → c .status ≡ 1 → statusSound c ≡ (leb 1 (c .code) && leb (c .code) 5)
+of-closed : (c : Claim) → c .status ≡ 1 → statusSound c ≡ (leb 1 (c .code) && leb (c .code) 6)
 unfolding statusSound isClosed
 of-closed c e = simp e
 

@@ -1,10 +1,10 @@
--- `claim_months::sound_claim::claim_category` meets its contract: a missing maximum leaves the code, and a known one decides by the days between.
+-- `claim_months::sound_claim::claim_category` meets its contract: a missing maximum is never reached, and a known one by the days between.
 -- Assumes nothing.
 use Prim.Native.Nat.{_≤_}
 use mathlib.Core.Path.{_≡_, sym, _∙_}
 use mathlib.Core.Bool.{Bool, true, false}
-use native.Mathlib.Omega.{arith}
 use borrow.Author.Tests.{eq-eqb, ne-eqb}
+use lib.Dec.{eqb}
 use Rattle.basics.specs.Pick.{pick}
 use Rattle.calendar.specs.Calendar.{lastDayNumber}
 use Rattle.calendar.proofs.Laws.{day-last}
@@ -19,13 +19,14 @@ use Rattle.claim_months.proofs.sound_claim.claim_category.Tie as tie
 
 module _ (c : Claim) (z : isClosed c ≡ true) where
   -- a missing maximum leaves the code
-  unknown : isMissing (c .maximum) ≡ true → c .code ≡ pick (isClosed c) (category c) 0
+  unknown : isMissing (c .maximum) ≡ true → pick (eqb (c .code) 6) 1 (c .code) ≡ pick (isClosed c) (category c) 0
   unfolding category
   unknown m = simp (z, m)
 
   -- with a known one, near or not decides
   module _ (x : ClaimDays) (h : x ≡ daysOf c) (m : isMissing (c .maximum) ≡ false) where
-    decided : (n : Bool) → n ≡ withinDays 45 (x .termination .0) (x .maximum .0) → pick (isClosed c) (category c) 0 ≡ pick n 4 (c .code)
+    decided : (n : Bool) → n ≡ withinDays 45 (x .termination .0) (x .maximum .0)
+        → pick n 4 (pick (eqb (c .code) 6) 1 (c .code)) ≡ pick (isClosed c) (category c) 0
     unfolding category
     decided n f = rw (f, h, z, m)
 
@@ -41,7 +42,10 @@ unfolding isClosed
 closed c = eq-eqb _ _ (c .if1 .left)
 
 returns-2 : tie.Need-returns-2
-returns-2 c = unknown _ (closed (c .before .before)) (sym (c .before .is-missing .ensures) ∙ c .if2 .taken)
+returns-2 c =
+    let t = c .before in
+    let m = t .before in
+    c .category-of .ensures ∙ unknown _ (closed (m .before)) (sym (m .is-missing .ensures) ∙ t .if2 .taken)
 
 known : (c : tie.Else2) → isMissing (c .before .before .before .before .args .claim .maximum) ≡ false
 known c = sym (c .before .is-missing .ensures) ∙ c .if2 .left
@@ -49,23 +53,14 @@ known c = sym (c .before .is-missing .ensures) ∙ c .if2 .left
 near-requires : tie.Need-near-requires
 near-requires c κs = let s = c .before .before .before .before in days-high _ (closed (c .before .before)) _ (s .pre .1) (known c) (s .pre .0)
 
-by-near : (c : tie.After-near) →
-    let d = c .before .before .before .before .before .args .claim in
-    pick (isClosed d) (category d) 0 ≡ pick (c .near .result) 4 (d .code)
-by-near c =
-    let e2 = c .before in
-    let s = e2 .before .before .before .before in
-    decided _ (closed (e2 .before .before)) _ (s .pre .1) (known e2) _ (c .near .ensures)
-
 returns-3 : tie.Need-returns-3
 returns-3 c =
-    let e = by-near (c .before) in
-    let n = rw (c .if3 .taken) at e in omega arith
-
-returns-4 : tie.Need-returns-4
-returns-4 c = simp (by-near (c .before), c .if3 .left)
+    let n = c .before in
+    let e2 = n .before in
+    let s = e2 .before .before .before .before in
+    c .category-of2 .ensures ∙ decided _ (closed (e2 .before .before)) _ (s .pre .1) (known e2) _ (n .near .ensures)
 
 pub claim-category-spec : {M : Type 1} → statement M
 claim-category-spec =
     tie.close
-    (tie.spec returns (λ c κs. search needs) returns-2 near-requires returns-3 returns-4)
+    (tie.spec returns (λ c κs. search needs) (λ c κs. search needs) returns-2 near-requires (λ c κs. search needs) returns-3)
