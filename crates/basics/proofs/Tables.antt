@@ -123,3 +123,24 @@ filled-more f z l k v h p e i q =
     by (eqb i k) (λ _. getD (set l k v) i z ≡ f i)
     (λ y. let s : i ≡ k = omega tests in rw s (getD-set-same l k v z h ∙ e))
     (λ y. getD-set-other l k i v z (λ (s : i ≡ k). omega tests) ∙ p i (omega tests))
+
+-- a test of each two consecutive entries of a list and the place of the first, counted from i: computed over the whole list, it holds at every place
+abbrev pub allSteps : {A : Type 0} → (ℕ → A → A → Bool) → ℕ → List A → Bool
+allSteps f i [] = true
+allSteps f i (x ∷ []) = true
+allSteps f i (x ∷ y ∷ l) = f i x y && allSteps f (suc i) (y ∷ l)
+
+steps-from : {A : Type 0} (f : ℕ → A → A → Bool) (z : A) (l : List A) (i : ℕ) → allSteps f i l ≡ true → (k : ℕ) → suc k < length l
+    → f (i + k) (getD l k z) (getD l (suc k) z) ≡ true
+steps-from f z [] i e k h = absurd (omega tests)
+steps-from f z (x ∷ []) i e k h = absurd (omega tests)
+steps-from f z (x ∷ y ∷ l) i e zero h =
+    let p : i + 0 ≡ i = omega tests in
+    rw p (and-left (f i x y) (allSteps f (suc i) (y ∷ l)) e)
+steps-from f z (x ∷ y ∷ l) i e (suc k) h =
+    let p : i + suc k ≡ suc i + k = omega tests in
+    rw p (steps-from f z (y ∷ l) (suc i) (and-right (f i x y) (allSteps f (suc i) (y ∷ l)) e) k (omega tests))
+
+pub step-at : {A : Type 0} (f : ℕ → A → A → Bool) (z : A) (l : List A) → allSteps f 0 l ≡ true → (k : ℕ) → suc k < length l
+    → f k (getD l k z) (getD l (suc k) z) ≡ true
+step-at f z l e k h = let p : 0 + k ≡ k = omega tests in rw p at (steps-from f z l 0 e k h)

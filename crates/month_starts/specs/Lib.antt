@@ -1,0 +1,3 @@
+-- The table of month starts.
+pub mod MonthStarts
+pub mod Private
