@@ -1,7 +1,7 @@
 -- The calendar's laws, for the layers above: they cite these and never unfold the calendar's formulas.
 -- Assumes nothing.
 use Prim.Native.Nat.{ℕ, zero, suc, _+_, _*_, _-_, _/_, _%_, _≤_, _<_}
-use mathlib.Core.Path.{_≡_, refl, ap, _∙_}
+use mathlib.Core.Path.{_≡_, refl, sym, ap, _∙_}
 use mathlib.Core.Bool.{Bool, true, false, _||_, and-eq-true-iff}
 use mathlib.Core.Logic.{_⊎_, ⊎-elim}
 use native.Mathlib.Omega.{arith}
@@ -11,7 +11,8 @@ use Rattle.calendar.specs.declared.Date.{Date}
 use Rattle.basics.specs.Pick.{pick}
 use Rattle.calendar.specs.Calendar.{leapYear, monthLength, isDate, monthIndex, indexLength, daysBefore, monthStart, dayNumber, nextDate, dateOf, monthOf, lastDayNumber, firstMonth}
 use Rattle.basics.proofs.Tests.{by, tests}
-use Rattle.calendar.proofs.Closed.{days-closed}
+use Rattle.month_starts.specs.MonthStarts.{monthStarts}
+use Rattle.calendar.proofs.TableRule.{table-rule}
 
 -- what `isDate` tests, as facts
 pub record DateBounds (d : Date) : Type 0 where
@@ -91,8 +92,8 @@ unfolding monthStart daysBefore
 first-month = refl
 
 pub end-month : monthStart 25200 ≡ 54787
-unfolding monthStart
-end-month = days-closed 1800 (omega arith)
+unfolding monthStarts
+end-month = sym (table-rule 1800 (omega arith))
 
 -- A date from 1950 on, with no last year: what `dateOf` gives at every number.
 record Formed (d : Date) : Type 0 where
@@ -228,8 +229,8 @@ day-last d h =
     omega (arith, end-month, months-rise (index d + 1) 25200 (omega arith) (omega arith))
 
 pub last-date : dayNumber (record { year = 2099; month = 12; day = 31 }) ≡ lastDayNumber
-unfolding dayNumber monthIndex monthStart
-last-date = ap (λ (n : ℕ). n + 30) (days-closed 1799 (omega arith))
+unfolding dayNumber monthIndex monthStarts
+last-date = ap (λ (n : ℕ). n + 30) (sym (table-rule 1799 (omega arith)))
 
 pub date-of-day-is-date : (n : ℕ) → n ≤ lastDayNumber → isDate (dateOf n) ≡ true
 unfolding monthOf monthIndex

@@ -1,3 +1,5 @@
--- The laws that the layers above cite are in `Laws`; `Closed` has the closed arithmetic of the code.
+-- The laws that the layers above cite are in `Laws`; `TableRule` has the rule at each entry of the table of month starts, and `MonthTables` the
+-- theorem that the table and the rule agree.
 pub mod Laws
-mod Closed
+mod TableRule
+pub mod MonthTables

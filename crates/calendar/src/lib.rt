@@ -1,7 +1,7 @@
 // The calendar of document 01: dates, day numbers and months from 1950-01-01 to 2099-12-31.
 ghost use mathlib.Core.Path.{_≡_};
 ghost use Prim.Native.Nat.{_+_, _≤_};
-ghost use Rattle.calendar.specs.Calendar.{leapYear, monthLength, isDate, daysBefore, monthOf, lastDayNumber, firstMonth};
+ghost use Rattle.calendar.specs.Calendar.{leapYear, monthLength, isDate, monthOf, lastDayNumber, firstMonth};
 ghost use Rattle.calendar.specs.DayAnswers.{dayOf, dateAt, monthAt, firstDay, lastDay};
 
 // A calendar date, in the widths of the claim file. Any bit pattern is a value; `is_date` tells which are dates.
@@ -89,18 +89,6 @@ pub fn is_date(date: Date) -> bool
     date.day <= month_length(date.year, date.month)
 }
 
-// The days of the first months from January 1950 on.
-fn days_before(months: u32) -> u32
-    requires { ⌜ months ≤ 1801 ⌝ }
-    ensures { λ r. ⌜ r ≡ daysBefore months ⌝ }
-{
-    // Years from March on have the leap day at their end. Each fourth year to 2099 is a leap year: 1952, 1956, ..
-    let from_march = months + 10;
-    let years = from_march / 12;
-    let month = from_march % 12;
-    365 * years + (years + 1) / 4 + (153 * month + 2) / 5 - 306
-}
-
 // The day number of a date.
 pub fn day_number(date: Date) -> MaybeDay
     ensures { λ r. ⌜ r ≡ dayOf date ⌝ }
@@ -109,7 +97,7 @@ pub fn day_number(date: Date) -> MaybeDay
         return MaybeDay::NoDay;
     }
     let months = (date.year as u32 - 1950) * 12 + (date.month as u32 - 1);
-    MaybeDay::Known(Day(days_before(months) + (date.day as u32 - 1)))
+    MaybeDay::Known(Day(month_starts::start(months) + (date.day as u32 - 1)))
 }
 
 // The months from January 1950 to the one that holds a day.
@@ -119,7 +107,7 @@ fn month_of(number: u32) -> u32
 {
     // 48 months have 1,461 days, and no month starts 3 days before its share of them: this is the month, or the one after it.
     let guess = 48 * (number + 3) / 1461;
-    if number < days_before(guess) {
+    if number < month_starts::start(guess) {
         return guess - 1;
     }
     guess
@@ -134,7 +122,7 @@ pub fn date_of_day(day: Day) -> MaybeDate
         return MaybeDate::NoDate;
     }
     let months = month_of(number);
-    let start = days_before(months);
+    let start = month_starts::start(months);
     MaybeDate::Found(Date {
         year: (1950 + months / 12) as u16,
         month: (months % 12 + 1) as u8,
@@ -163,7 +151,7 @@ pub fn first_day(month: u32) -> MaybeDay
     if month > END_MONTH {
         return MaybeDay::NoDay;
     }
-    MaybeDay::Known(Day(days_before(month - FIRST_MONTH)))
+    MaybeDay::Known(Day(month_starts::start(month - FIRST_MONTH)))
 }
 
 // The last day of the month with an index.
@@ -176,5 +164,9 @@ pub fn last_day(month: u32) -> MaybeDay
     if month > END_MONTH {
         return MaybeDay::NoDay;
     }
-    MaybeDay::Known(Day(days_before(month + 1 - FIRST_MONTH) - 1))
+    // The table ends with the start of January 2100, which has 31 days.
+    if month == END_MONTH {
+        return MaybeDay::Known(Day(LAST_DAY + 31));
+    }
+    MaybeDay::Known(Day(month_starts::start(month + 1 - FIRST_MONTH) - 1))
 }

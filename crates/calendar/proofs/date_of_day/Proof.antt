@@ -1,14 +1,17 @@
 -- `calendar::date_of_day` meets its contract: year, month and day are those of the month and its start.
 -- Assumes nothing.
 use Prim.Native.Nat.{ℕ, _+_, _-_, _/_, _%_, _≤_}
-use mathlib.Core.Path.{_≡_, ap}
+use mathlib.Core.Path.{_≡_, _∙_}
 use native.Mathlib.Omega.{arith}
 use borrow.Author.Needs.{needs}
 use borrow.Author.Tests.{le-leb, lt-leb}
 use Rattle.calendar.specs.declared.Date.{Date}
-use Rattle.calendar.specs.Calendar.{monthIndex, monthStart, daysBefore, dateOf, monthOf, lastDayNumber, firstMonth}
+use Rattle.calendar.specs.Calendar.{dateOf, monthOf, lastDayNumber, firstMonth}
 use Rattle.calendar.specs.DayAnswers.{dateAt}
-use Rattle.calendar.proofs.Laws.{length-high, date-bounds, date-in-month, number-of-date, date-of-day-is-date, month-of-high, same-date}
+use Rattle.calendar.specs.MonthTable.{entry, dateIn}
+use Rattle.calendar.proofs.TableRule.{table-lengths}
+use Rattle.calendar.proofs.MonthTables.{month-place, in-entry, date-in}
+use Rattle.calendar.proofs.Laws.{index-length-high, same-date}
 use Rattle.calendar.proofs.date_of_day.Statement.{statement}
 use Rattle.calendar.proofs.date_of_day.Tie as tie
 
@@ -23,27 +26,20 @@ record Parts (n m s : ℕ) : Type 0 where
   day-high : n - s + 1 ≤ 31
   date : _≡_ {A = Date} (record { year = 1950 + m / 12; month = m % 12 + 1; day = n - s + 1 }) (dateOf n)
 
-parts : (n m s : ℕ) → n ≤ lastDayNumber → firstMonth + m ≡ monthOf n → s ≡ daysBefore m → Parts n m s
-unfolding monthOf monthIndex monthStart
+parts : (n m s : ℕ) → n ≤ lastDayNumber → firstMonth + m ≡ monthOf n → s ≡ entry m → Parts n m s
 parts n m s h e f =
-    let b = date-bounds (dateOf n) (date-of-day-is-date n h) in
-    let i = date-in-month (dateOf n) (date-of-day-is-date n h) in
-    let d = number-of-date n in
-    let l = length-high (dateOf n .year) (dateOf n .month) in
-    let g : monthOf n - firstMonth ≡ m = omega arith in
-    let k = ap daysBefore g in
+    let i = in-entry n m h e in
+    let t = table-lengths m (month-place n m h e) in
+    let l = index-length-high (firstMonth + m) in
     record {
       start = omega arith;
-      year-high = omega arith;
+      year-high = omega (arith, month-place n m h e);
       day-high = omega arith;
-      date = same-date _ _ (omega arith) (omega arith) (omega arith);
+      date = same-date _ (dateIn m n) (omega arith) (omega arith) (omega arith) ∙ date-in n m h e;
     }
 
-found : (c : tie.After-days-before) → Parts (c .before .before .before .args .day .0) (c .before .month-of .result) (c .days-before .result)
-found c = parts _ _ _ (c .before .before .if1 .left) (c .before .month-of .ensures) (c .days-before .ensures)
-
-days-before-requires : tie.Need-days-before-requires
-days-before-requires c κs = omega (arith, month-of-high _ (c .before .if1 .left))
+found : (c : tie.After-start) → Parts (c .before .before .before .args .day .0) (c .before .month-of .result) (c .start .result)
+found c = parts _ _ _ (c .before .before .if1 .left) (c .before .month-of .ensures) (c .start .ensures)
 
 cast-t8 : tie.Need-cast-t8
 cast-t8 c = omega (arith, found c .year-high)
@@ -61,5 +57,5 @@ returns-2 c = simp (le-leb _ _ (c .before .before .if1 .left), found c .date)
 pub date-of-day-spec : {M : Type 1} → statement M
 date-of-day-spec =
     tie.close
-    (tie.spec returns (λ c κs. search needs) days-before-requires (λ c. search needs) cast-t8 (λ c. search needs) (λ c. search needs) sub-t12
+    (tie.spec returns (λ c κs. search needs) (λ c κs. search needs) (λ c. search needs) cast-t8 (λ c. search needs) (λ c. search needs) sub-t12
     (λ c. search needs) cast-t14 returns-2)

@@ -7,8 +7,10 @@ use native.Mathlib.Omega.{arith}
 use borrow.Author.Needs.{needs}
 use borrow.Author.Tests.{not-true, not-false}
 use Rattle.calendar.specs.declared.Date.{Date}
-use Rattle.calendar.specs.Calendar.{isDate, monthIndex, monthStart, daysBefore, dayNumber, firstMonth}
+use Rattle.calendar.specs.Calendar.{isDate, monthIndex, monthStart, dayNumber, firstMonth}
 use Rattle.calendar.specs.DayAnswers.{dayOf}
+use Rattle.calendar.specs.MonthTable.{entry}
+use Rattle.calendar.proofs.TableRule.{table-rule}
 use Rattle.calendar.proofs.Laws.{DateBounds, date-bounds, day-last}
 use Rattle.calendar.proofs.day_number.Statement.{statement}
 use Rattle.calendar.proofs.day_number.Tie as tie
@@ -25,11 +27,12 @@ bounds : (c : tie.Else1) → DateBounds (c .before .before .args .date)
 bounds c = date-bounds _ (dated c)
 
 -- its number, as the code counts
-number : (d : Date) (n : ℕ) → DateBounds d → n ≡ daysBefore ((d .year - 1950) * 12 + (d .month - 1)) → n + (d .day - 1) ≡ dayNumber d
-unfolding dayNumber monthStart monthIndex
+number : (d : Date) (n : ℕ) → DateBounds d → n ≡ entry ((d .year - 1950) * 12 + (d .month - 1)) → n + (d .day - 1) ≡ dayNumber d
+unfolding dayNumber monthIndex
 number d n b e =
-    let m : (d .year - 1950) * 12 + (d .month - 1) ≡ d .year * 12 + (d .month - 1) - firstMonth = omega arith in
-    ap (λ (k : ℕ). k + (d .day - 1)) (e ∙ ap daysBefore m)
+    let m = (d .year - 1950) * 12 + (d .month - 1) in
+    let i : firstMonth + m ≡ d .year * 12 + (d .month - 1) = omega arith in
+    ap (λ (k : ℕ). k + (d .day - 1)) (e ∙ table-rule m (omega arith) ∙ ap monthStart i)
 
 sub-months : tie.Need-sub-months
 sub-months c = bounds (c .before) .year-low
@@ -37,17 +40,14 @@ sub-months c = bounds (c .before) .year-low
 sub-months-2 : tie.Need-sub-months-2
 sub-months-2 c = bounds (c .before .before) .month-low
 
-days-before-requires : tie.Need-days-before-requires
-days-before-requires c κs = omega (arith, bounds (c .before .before))
-
 sub-t8 : tie.Need-sub-t8
 sub-t8 c = omega (arith, bounds (c .before .before .before .before))
 
 -- the day number and its bound at the last step
 known : (c : tie.After-struct-known3)
-    → c .before .days-before .result + (c .before .before .before .before .before .before .args .date .day - 1)
+    → c .before .start .result + (c .before .before .before .before .before .before .args .date .day - 1)
     ≡ dayNumber (c .before .before .before .before .before .before .args .date)
-known c = number _ _ (bounds (c .before .before .before .before)) (c .before .days-before .ensures)
+known c = number _ _ (bounds (c .before .before .before .before)) (c .before .start .ensures)
 
 add-t7 : tie.Need-add-t7
 add-t7 c = omega (arith, known c, day-last _ (dated (c .before .before .before .before)))
@@ -60,4 +60,4 @@ pub day-number-spec : {M : Type 1} → statement M
 day-number-spec =
     tie.close
     (tie.spec (λ c κs. search needs) returns (λ c. search needs) sub-months (λ c. search needs) (λ c. search needs) sub-months-2 (λ c. search needs)
-    days-before-requires (λ c. search needs) sub-t8 add-t7 returns-2)
+    (λ c κs. search needs) (λ c. search needs) sub-t8 add-t7 returns-2)

@@ -1,4 +1,4 @@
--- `calendar::month_of` meets its contract. That the guess is the month or the one after it is one test that antt computes at each month's first and last day.
+-- `calendar::month_of` meets its contract. That the guess is the month or the one after it is one test that antt computes over the table, at each month's first and last day.
 -- Assumes nothing.
 use Prim.Native.Nat.{ℕ, suc, _+_, _*_, _-_, _/_, _≤_, _<_}
 use mathlib.Core.Path.{_≡_, refl, ap}
@@ -6,25 +6,23 @@ use mathlib.Core.Bool.{Bool, true, _&&_, and-eq-true-iff}
 use native.Mathlib.Omega.{arith}
 use borrow.Author.Needs.{needs}
 use lib.Dec.{leb, ltb}
-use Rattle.calendar.specs.Calendar.{daysBefore, monthStart, monthOf, lastDayNumber, firstMonth}
-use Rattle.basics.proofs.Tests.{allBelow, all-at, tests}
-use Rattle.calendar.proofs.Closed.{closed, days-closed}
+use Rattle.calendar.specs.Calendar.{monthStart, monthOf, lastDayNumber, firstMonth}
+use Rattle.basics.proofs.Tests.{tests}
+use Rattle.basics.proofs.Tables.{allSteps, step-at}
+use Rattle.month_starts.specs.MonthStarts.{monthStarts}
+use Rattle.calendar.specs.MonthTable.{entry}
+use Rattle.calendar.proofs.TableRule.{table-count, table-rule}
 use Rattle.calendar.proofs.Laws.{months-order, month-of-low, month-of-high, month-of-start, month-of-end}
 use Rattle.calendar.proofs.month_of.Statement.{statement}
 use Rattle.calendar.proofs.month_of.Tie as tie
 
 -- the guess at month k's first day is k or more, and at its last day k + 1 or less
-near : ℕ → Bool
-near k = leb (1461 * k) (48 * (closed k + 3)) && ltb (48 * (closed (suc k) + 2)) (1461 * (k + 2))
+near : ℕ → ℕ → ℕ → Bool
+near k x y = leb (1461 * k) (48 * (x + 3)) && ltb (48 * (y + 2)) (1461 * (k + 2))
 
-all-near : allBelow near 1800 ≡ true
-unfolding near
+all-near : allSteps near 0 monthStarts ≡ true
+unfolding near monthStarts
 all-near = refl
-
--- a month's start, as the code counts
-start : (k : ℕ) → monthStart (firstMonth + k) ≡ daysBefore k
-unfolding monthStart
-start k = let e : firstMonth + k - firstMonth ≡ k = omega arith in ap daysBefore e
 
 abbrev guess : ℕ → ℕ
 guess n = 48 * (n + 3) / 1461
@@ -39,38 +37,36 @@ guessed n h =
     let l = month-of-low n in
     let m = month-of-high n h in
     let k = monthOf n - firstMonth in
-    let t = simp and-eq-true-iff at (all-at near 1800 all-near k (omega arith)) in
+    let t = simp and-eq-true-iff at (step-at near 0 monthStarts all-near k (omega (arith, table-count))) in
     let e : firstMonth + k ≡ monthOf n = omega arith in
     let f : firstMonth + suc k ≡ monthOf n + 1 = omega arith in
-    let a : closed k ≤ n =
-    omega (arith, month-of-start n, ap monthStart e, start k, days-closed k (omega arith)) in
-    let b : n < closed (suc k) =
-    omega (arith, month-of-end n, ap monthStart f, start (suc k), days-closed (suc k) (omega arith)) in
+    let a : entry k ≤ n = omega (arith, month-of-start n, ap monthStart e, table-rule k (omega arith)) in
+    let b : n < entry (suc k) = omega (arith, month-of-end n, ap monthStart f, table-rule (suc k) (omega arith)) in
     omega tests
 
 -- the guess is the month after if that starts later than the day, and the month if not
-over : (n s : ℕ) → n ≤ lastDayNumber → s ≡ daysBefore (guess n) → n < s → (1 ≤ guess n) × (firstMonth + (guess n - 1) ≡ monthOf n)
+over : (n s : ℕ) → n ≤ lastDayNumber → s ≡ entry (guess n) → n < s → (1 ≤ guess n) × (firstMonth + (guess n - 1) ≡ monthOf n)
 over n s h e l =
     let g = guessed n h in
     let b = month-of-low n in
-    let o = months-order (monthOf n) (firstMonth + guess n) (omega arith) (omega (arith, month-of-start n, start (guess n))) in
+    let o = months-order (monthOf n) (firstMonth + guess n) (omega arith) (omega (arith, month-of-start n, table-rule (guess n) (omega arith))) in
     omega arith
 
-met : (n s : ℕ) → n ≤ lastDayNumber → s ≡ daysBefore (guess n) → s ≤ n → firstMonth + guess n ≡ monthOf n
+met : (n s : ℕ) → n ≤ lastDayNumber → s ≡ entry (guess n) → s ≤ n → firstMonth + guess n ≡ monthOf n
 met n s h e l =
     let g = guessed n h in
     let b = month-of-low n in
-    let o = months-order (firstMonth + guess n) (monthOf n + 1) (omega arith) (omega (arith, month-of-end n, start (guess n))) in
+    let o = months-order (firstMonth + guess n) (monthOf n + 1) (omega arith) (omega (arith, month-of-end n, table-rule (guess n) (omega arith))) in
     omega arith
 
 sub-result : tie.Need-sub-result
-sub-result c = over _ _ (c .before .before .pre) (c .before .days-before .ensures) (c .if1 .taken) .0
+sub-result c = over _ _ (c .before .before .pre) (c .before .start .ensures) (c .if1 .taken) .0
 
 returns : tie.Need-returns
-returns c = over _ _ (c .before .before .pre) (c .before .days-before .ensures) (c .if1 .taken) .1
+returns c = over _ _ (c .before .before .pre) (c .before .start .ensures) (c .if1 .taken) .1
 
 returns-2 : tie.Need-returns-2
-returns-2 c = met _ _ (c .before .before .pre) (c .before .days-before .ensures) (c .if1 .left)
+returns-2 c = met _ _ (c .before .before .pre) (c .before .start .ensures) (c .if1 .left)
 
 pub month-of-spec : {M : Type 1} → statement M
 month-of-spec =
