@@ -38,11 +38,10 @@ table-days zero h = table-first
 table-days (suc k) h =
     table-lengths k h ∙ ap (λ (d : ℕ). d + indexLength (firstMonth + k)) (table-days k (omega arith))
 
-pub table-rule : (k : ℕ) → k ≤ 1800 → entry k ≡ monthStart (firstMonth + k)
+-- entry k is the start of month i, the k-th after January 1950
+pub table-start : (i k : ℕ) → firstMonth + k ≡ i → i ≤ endMonth → entry k ≡ monthStart i
 unfolding monthStart
-table-rule k h = let e : k ≡ firstMonth + k - firstMonth = omega arith in table-days k h ∙ ap daysBefore e
+table-start i k e h = let p : k ≡ i - firstMonth = omega arith in table-days k (omega arith) ∙ ap daysBefore p
 
--- the same by the month's index
-pub table-start : (i : ℕ) → firstMonth ≤ i → i ≤ endMonth → entry (i - firstMonth) ≡ monthStart i
-unfolding monthStart
-table-start i h l = table-days (i - firstMonth) (omega arith)
+pub table-rule : (k : ℕ) → k ≤ 1800 → entry k ≡ monthStart (firstMonth + k)
+table-rule k h = table-start (firstMonth + k) k refl (omega arith)

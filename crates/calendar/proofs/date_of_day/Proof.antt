@@ -39,7 +39,7 @@ parts n m s h e f =
     }
 
 found : (c : tie.After-start) → Parts (c .before .before .before .args .day .0) (c .before .month-of .result) (c .start .result)
-found c = parts _ _ _ (c .before .before .if1 .left) (c .before .month-of .ensures) (c .start .ensures)
+found c = parts (c .before .before .before .args .day .0) _ _ (omega arith) (c .before .month-of .ensures) (c .start .ensures)
 
 cast-t8 : tie.Need-cast-t8
 cast-t8 c = omega (arith, found c .year-high)
@@ -52,7 +52,7 @@ cast-t14 c = omega (arith, found c .day-high)
 
 returns-2 : tie.Need-returns-2
 unfolding dateAt
-returns-2 c = simp (le-leb _ _ (c .before .before .if1 .left), found c .date)
+returns-2 c = simp (le-leb (c .before .before .before .args .day .0) lastDayNumber (omega arith), found c .date)
 
 pub date-of-day-spec : {M : Type 1} → statement M
 date-of-day-spec =

@@ -1,17 +1,18 @@
 -- `calendar::day_number` meets its contract: a date's bounds come from its test, and the code counts months from 1950 where the definition counts them from year 0.
 -- Assumes nothing.
-use Prim.Native.Nat.{ℕ, _+_, _*_, _-_}
+use Prim.Native.Nat.{ℕ, _+_, _-_}
 use mathlib.Core.Path.{_≡_, sym, ap, _∙_}
 use mathlib.Core.Bool.{true}
 use native.Mathlib.Omega.{arith}
 use borrow.Author.Needs.{needs}
 use borrow.Author.Tests.{not-true, not-false}
 use Rattle.calendar.specs.declared.Date.{Date}
-use Rattle.calendar.specs.Calendar.{isDate, monthIndex, monthStart, dayNumber, firstMonth}
+use Rattle.calendar.specs.Calendar.{isDate, monthIndex, dayNumber, firstMonth}
 use Rattle.calendar.specs.DayAnswers.{dayOf}
 use Rattle.calendar.specs.MonthTable.{entry}
-use Rattle.calendar.proofs.TableRule.{table-rule}
+use Rattle.calendar.proofs.TableRule.{table-start}
 use Rattle.calendar.proofs.Laws.{DateBounds, date-bounds, day-last}
+use Rattle.calendar.proofs.MonthTables.{day-is}
 use Rattle.calendar.proofs.day_number.Statement.{statement}
 use Rattle.calendar.proofs.day_number.Tie as tie
 
@@ -26,13 +27,10 @@ dated c = sym (c .before .is-date .ensures) ∙ not-false _ (c .if1 .left)
 bounds : (c : tie.Else1) → DateBounds (c .before .before .args .date)
 bounds c = date-bounds _ (dated c)
 
--- its number, as the code counts
-number : (d : Date) (n : ℕ) → DateBounds d → n ≡ entry ((d .year - 1950) * 12 + (d .month - 1)) → n + (d .day - 1) ≡ dayNumber d
+-- its number, as the code counts: m months after January 1950 to its own, which starts on day s
+number : (d : Date) (m s : ℕ) → s ≡ entry m → DateBounds d → firstMonth + m ≡ monthIndex (d .year) (d .month) → s + (d .day - 1) ≡ dayNumber d
 unfolding dayNumber monthIndex
-number d n b e =
-    let m = (d .year - 1950) * 12 + (d .month - 1) in
-    let i : firstMonth + m ≡ d .year * 12 + (d .month - 1) = omega arith in
-    ap (λ (k : ℕ). k + (d .day - 1)) (e ∙ table-rule m (omega arith) ∙ ap monthStart i)
+number d m s f b e = ap (λ (n : ℕ). n + (d .day - 1)) (f ∙ table-start (monthIndex (d .year) (d .month)) m e (omega arith))
 
 sub-months : tie.Need-sub-months
 sub-months c = bounds (c .before) .year-low
@@ -43,18 +41,21 @@ sub-months-2 c = bounds (c .before .before) .month-low
 sub-t8 : tie.Need-sub-t8
 sub-t8 c = omega (arith, bounds (c .before .before .before .before))
 
+abbrev given : tie.After-struct-known3 → Date
+given c = c .before .before .before .before .before .before .args .date
+
 -- the day number and its bound at the last step
-known : (c : tie.After-struct-known3)
-    → c .before .start .result + (c .before .before .before .before .before .before .args .date .day - 1)
-    ≡ dayNumber (c .before .before .before .before .before .before .args .date)
-known c = number _ _ (bounds (c .before .before .before .before)) (c .before .start .ensures)
+numbered : (c : tie.After-struct-known3) → c .before .start .result + (given c .day - 1) ≡ dayNumber (given c)
+unfolding monthIndex
+numbered c =
+    let b = bounds (c .before .before .before .before) in
+    number (given c) _ _ (c .before .start .ensures) b (omega arith)
 
 add-t7 : tie.Need-add-t7
-add-t7 c = omega (arith, known c, day-last _ (dated (c .before .before .before .before)))
+add-t7 c = omega (arith, numbered c, day-last _ (dated (c .before .before .before .before)))
 
 returns-2 : tie.Need-returns-2
-unfolding dayOf
-returns-2 c = simp (dated (c .before .before .before .before), ← known c)
+returns-2 c = day-is (given c) _ (dated (c .before .before .before .before)) (omega (arith, numbered c))
 
 pub day-number-spec : {M : Type 1} → statement M
 day-number-spec =

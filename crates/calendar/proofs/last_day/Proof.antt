@@ -18,11 +18,11 @@ use Rattle.calendar.proofs.last_day.Tie as tie
 
 returns : tie.Need-returns
 unfolding lastDay isMonth
-returns c = simp (lt-leb _ _ (c .if1 .taken))
+returns c = simp (lt-leb firstMonth (c .before .args .month) (omega arith))
 
 returns-2 : tie.Need-returns-2
 unfolding lastDay isMonth
-returns-2 c = simp (lt-leb _ _ (c .if2 .taken), and-false)
+returns-2 c = simp (lt-leb (c .before .before .args .month) endMonth (omega arith), and-false)
 
 returns-3 : tie.Need-returns-3
 returns-3 c =
@@ -30,23 +30,22 @@ returns-3 c =
     last-is (c .before .before .before .args .month) _ (omega arith) (omega arith)
     (omega (arith, ap monthStart e, ap indexLength e, end-month, end-length))
 
--- the day on which the next month starts
-next : (i : ℕ) → firstMonth ≤ i → i < endMonth → entry (i + 1 - firstMonth) ≡ monthStart i + indexLength i
-next i h l = table-start (i + 1) (omega arith) (omega arith) ∙ month-step i h
+-- entry k is the start of the month after i, on day n
+next : (i k n : ℕ) → n ≡ entry k → firstMonth + k ≡ i + 1 → firstMonth ≤ i → i < endMonth → n ≡ monthStart i + indexLength i
+next i k n f e h l = f ∙ table-start (i + 1) k e (omega arith) ∙ month-step i h
+
+abbrev index : tie.After-start → ℕ
+index c = c .before .before .before .before .args .month
 
 -- in the last way out the month is before January 2100
-starts : (c : tie.After-start) → c .start .result ≡ monthStart (c .before .before .before .before .args .month) + indexLength (c .before .before .before .before .args .month)
-starts c =
-    let f = c .before .if3 .left in
-    c .start .ensures ∙ next _ (c .before .before .before .if1 .left) (omega arith)
+starts : (c : tie.After-start) → c .start .result ≡ monthStart (index c) + indexLength (index c)
+starts c = let f = c .before .if3 .left in next (index c) _ _ (c .start .ensures) (omega arith) (omega arith) (omega arith)
 
 sub-t8 : tie.Need-sub-t8
-sub-t8 c = omega (arith, starts c, index-length-low (c .before .before .before .before .args .month))
+sub-t8 c = omega (arith, starts c, index-length-low (index c))
 
 returns-4 : tie.Need-returns-4
-returns-4 c =
-    let i = c .before .before .before .before .args .month in
-    last-is i _ (omega arith) (omega arith) (omega (arith, starts c, index-length-low i))
+returns-4 c = last-is (index c) _ (omega arith) (omega arith) (omega (arith, starts c, index-length-low (index c)))
 
 pub last-day-spec : {M : Type 1} → statement M
 last-day-spec =

@@ -1,18 +1,19 @@
 -- `calendar::month_of` meets its contract. That the guess is the month or the one after it is one test that antt computes over the table, at each month's first and last day.
 -- Assumes nothing.
-use Prim.Native.Nat.{ℕ, suc, _+_, _*_, _-_, _/_, _≤_, _<_}
-use mathlib.Core.Path.{_≡_, refl, ap}
+use Prim.Native.Nat.{ℕ, _+_, _*_, _-_, _/_, _≤_, _<_}
+use mathlib.Core.Path.{_≡_, refl}
 use mathlib.Core.Bool.{Bool, true, _&&_, and-eq-true-iff}
 use native.Mathlib.Omega.{arith}
 use borrow.Author.Needs.{needs}
 use lib.Dec.{leb, ltb}
-use Rattle.calendar.specs.Calendar.{monthStart, monthOf, lastDayNumber, firstMonth}
+use Rattle.calendar.specs.Calendar.{monthOf, lastDayNumber, firstMonth}
 use Rattle.basics.proofs.Tests.{tests}
 use Rattle.basics.proofs.Tables.{allSteps, step-at}
 use Rattle.month_starts.specs.MonthStarts.{monthStarts}
 use Rattle.calendar.specs.MonthTable.{entry}
 use Rattle.calendar.proofs.TableRule.{table-count, table-rule}
-use Rattle.calendar.proofs.Laws.{months-order, month-of-low, month-of-high, month-of-start, month-of-end}
+use Rattle.calendar.proofs.Laws.{months-order, month-of-low, month-of-start, month-of-end}
+use Rattle.calendar.proofs.MonthTables.{month-place, in-entry}
 use Rattle.calendar.proofs.month_of.Statement.{statement}
 use Rattle.calendar.proofs.month_of.Tie as tie
 
@@ -34,14 +35,10 @@ record Near (n : ℕ) : Type 0 where
 guessed : (n : ℕ) → n ≤ lastDayNumber → Near n
 unfolding near
 guessed n h =
-    let l = month-of-low n in
-    let m = month-of-high n h in
     let k = monthOf n - firstMonth in
-    let t = simp and-eq-true-iff at (step-at near 0 monthStarts all-near k (omega (arith, table-count))) in
-    let e : firstMonth + k ≡ monthOf n = omega arith in
-    let f : firstMonth + suc k ≡ monthOf n + 1 = omega arith in
-    let a : entry k ≤ n = omega (arith, month-of-start n, ap monthStart e, table-rule k (omega arith)) in
-    let b : n < entry (suc k) = omega (arith, month-of-end n, ap monthStart f, table-rule (suc k) (omega arith)) in
+    let e : firstMonth + k ≡ monthOf n = omega (arith, month-of-low n) in
+    let i = in-entry n k h e in
+    let t = simp and-eq-true-iff at (step-at near 0 monthStarts all-near k (omega (arith, table-count, month-place n k h e))) in
     omega tests
 
 -- the guess is the month after if that starts later than the day, and the month if not
@@ -60,13 +57,13 @@ met n s h e l =
     omega arith
 
 sub-result : tie.Need-sub-result
-sub-result c = over _ _ (c .before .before .pre) (c .before .start .ensures) (c .if1 .taken) .0
+sub-result c = over (c .before .before .args .number) (c .before .start .result) (c .before .before .pre) (c .before .start .ensures) (omega arith) .0
 
 returns : tie.Need-returns
-returns c = over _ _ (c .before .before .pre) (c .before .start .ensures) (c .if1 .taken) .1
+returns c = over (c .before .before .args .number) (c .before .start .result) (c .before .before .pre) (c .before .start .ensures) (omega arith) .1
 
 returns-2 : tie.Need-returns-2
-returns-2 c = met _ _ (c .before .before .pre) (c .before .start .ensures) (c .if1 .left)
+returns-2 c = met (c .before .before .args .number) (c .before .start .result) (c .before .before .pre) (c .before .start .ensures) (omega arith)
 
 pub month-of-spec : {M : Type 1} → statement M
 month-of-spec =

@@ -1,6 +1,6 @@
 -- `month_starts::start` meets its contract: month m stands in row m / 4 at place m % 4.
 -- Assumes nothing.
-use Prim.Native.Nat.{ℕ, _+_, _*_, _/_, _%_}
+use Prim.Native.Nat.{ℕ, _+_, _*_, _<_}
 use mathlib.Core.Path.{_≡_, ap, _∙_}
 use mathlib.Core.List.{List}
 use native.Mathlib.Omega.{arith}
@@ -12,16 +12,16 @@ use Rattle.month_starts.specs.Private.{rowAt}
 use Rattle.month_starts.proofs.start.Statement.{statement}
 use Rattle.month_starts.proofs.start.Tie as tie
 
-entry : (m : ℕ) (r : List ℕ) → r ≡ rowAt (m / 4) → getD r (m % 4) 0 ≡ getD monthStarts m 0
+-- month i stands in row k at place m
+entry : (i k m : ℕ) (r : List ℕ) → r ≡ rowAt k → 4 * k + m ≡ i → m < 4 → getD r m 0 ≡ getD monthStarts i 0
 unfolding rowAt
-entry m r e =
-    let h : 4 * (m / 4) + m % 4 ≡ m = omega arith in
-    ap (λ (s : List ℕ). getD s (m % 4) 0) e
-    ∙ table-at 4 (λ j. getD monthStarts (4 * (m / 4) + j) 0) (m % 4) 0 (omega arith)
-    ∙ ap (λ (j : ℕ). getD monthStarts j 0) h
+entry i k m r e p h =
+    ap (λ (s : List ℕ). getD s m 0) e
+    ∙ table-at 4 (λ j. getD monthStarts (4 * k + j) 0) m 0 h
+    ∙ ap (λ (j : ℕ). getD monthStarts j 0) p
 
 returns : tie.Need-returns
-returns c = entry _ _ (c .row .ensures)
+returns c = entry (c .before .args .month) _ _ _ (c .row .ensures) (omega arith) (omega arith)
 
 pub start-spec : {M : Type 1} → statement M
 start-spec =
