@@ -105,15 +105,15 @@ month-table =
     record {
       count = table-count;
       first = table-first;
-      lengths = table-lengths;
-      rule = table-rule;
-      first-days = λ k h. sym (first-is (firstMonth + k) (entry k) (omega arith) (omega arith) (table-rule k h));
+      lengths = λ k h. table-lengths k (omega arith);
+      rule = λ k h. table-rule k (omega arith);
+      first-days = λ k h. sym (first-is (firstMonth + k) _ (omega arith) (omega arith) (table-rule k (omega arith)));
       last-days =
           λ k h.
           let i = firstMonth + k in
-          sym (last-is i (entry (suc k) - 1) (omega arith) (omega arith)
-          (omega (arith, table-lengths k h, table-rule k (omega arith), index-length-low i)));
-      last-of-all = sym (last-is endMonth (entry 1800 + 30) (omega arith) (omega arith) (omega (arith, table-rule 1800 (omega arith), end-length)));
+          sym (last-is i _ (omega arith) (omega arith)
+          (omega (arith, table-lengths k (omega arith), table-rule k (omega arith), index-length-low i)));
+      last-of-all = sym (last-is endMonth _ (omega arith) (omega arith) (omega (arith, table-rule 1800 (omega arith), end-length)));
       dates = date-by-table;
-      days = day-by-table;
+      days = λ n h. day-by-table n (omega arith);
     }

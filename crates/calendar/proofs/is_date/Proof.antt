@@ -3,6 +3,7 @@
 use Prim.Native.Nat.{ℕ, _≤_}
 use mathlib.Core.Path.{_≡_}
 use mathlib.Core.Bool.{and-false}
+use native.Mathlib.Omega.{arith}
 use borrow.Author.Needs.{needs}
 use borrow.Author.Tests.{le-leb, lt-leb}
 use lib.Dec.{leb}
@@ -13,23 +14,23 @@ use Rattle.calendar.proofs.is_date.Tie as tie
 
 returns : tie.Need-returns
 unfolding isDate
-returns c = simp (lt-leb _ _ (c .if1 .taken))
+returns c = simp (lt-leb 1950 (c .before .before .args .date .year) (omega arith))
 
 returns-2 : tie.Need-returns-2
 unfolding isDate
-returns-2 c = simp (lt-leb _ _ (c .if2 .taken), and-false)
+returns-2 c = simp (lt-leb (c .before .before .before .before .args .date .year) 2099 (omega arith), and-false)
 
 returns-3 : tie.Need-returns-3
 unfolding isDate
-returns-3 c = simp (lt-leb _ _ (c .if3 .taken), and-false)
+returns-3 c = simp (lt-leb 1 (c .before .before .before .before .before .before .args .date .month) (omega arith), and-false)
 
 returns-4 : tie.Need-returns-4
 unfolding isDate
-returns-4 c = simp (lt-leb _ _ (c .if4 .taken), and-false)
+returns-4 c = simp (lt-leb (c .before .before .before .before .before .before .before .before .args .date .month) 12 (omega arith), and-false)
 
 returns-5 : tie.Need-returns-5
 unfolding isDate
-returns-5 c = simp (lt-leb _ _ (c .if5 .taken), and-false)
+returns-5 c = simp (lt-leb 1 (c .before .before .before .before .before .before .before .before .before .before .args .date .day) (omega arith), and-false)
 
 -- a date that passed the tests on year and month, and the first on the day
 last-test : (d : Date) (l : ℕ) → 1950 ≤ d .year → d .year ≤ 2099 → 1 ≤ d .month → d .month ≤ 12 → 1 ≤ d .day
@@ -39,13 +40,8 @@ last-test d l y z m n k e = simp (le-leb _ _ y, le-leb _ _ z, le-leb _ _ m, le-l
 
 returns-6 : tie.Need-returns-6
 returns-6 c =
-    let e5 = c .before .before in
-    let e4 = e5 .before .before in
-    let e3 = e4 .before .before in
-    let e2 = e3 .before .before in
-    let e1 = e2 .before .before in
-    last-test (e1 .before .before .args .date) _
-    (e1 .if1 .left) (e2 .if2 .left) (e3 .if3 .left) (e4 .if4 .left) (e5 .if5 .left) (c .before .month-length .ensures)
+    last-test (c .before .before .before .before .before .before .before .before .before .before .before .before .args .date) _
+    (omega arith) (omega arith) (omega arith) (omega arith) (omega arith) (c .before .month-length .ensures)
 
 pub is-date-spec : {M : Type 1} → statement M
 is-date-spec =
