@@ -7,6 +7,7 @@ use native.Mathlib.Omega.{arith}
 use lib.IntN.{ℤ, pos, negsuc, natAbs, negℤ, predℤ, subℕ, _+ℤ_, _-ℤ_, _*ℤ_, +ℤ-idl, +ℤ-idr, +ℤ-assoc, +ℤ-comm, +ℤ-invr, +ℤ-invl, sucℤ-*ℤ, predℤ-*ℤ, zero-*ℤ, *ℤ-zero, *ℤ-negsuc, negℤ-negℤ, negℤ-+ℤ, -ℤ-+ℤ-cancel, +ℤ-negℤ-cancel}
 use borrow.Author.Tests.{le-ltb}
 use lib.Dec.{ltb}
+use Rattle.basics.specs.Pick.{pick}
 use Rattle.basics.proofs.Tests.{tests, by}
 use native.Mathlib.Nat.{sub-zero}
 
@@ -54,6 +55,11 @@ times-neg (suc w) x y = one-less (negsuc w) x y (times-neg w x y)
 pub times-sum : (w x y : ℤ) → w *ℤ (x +ℤ y) ≡ w *ℤ x +ℤ w *ℤ y
 times-sum (pos w) = times-pos w
 times-sum (negsuc w) = times-neg w
+
+-- a number or 0, as a test says, is the number times 1 or 0
+pub pick-times : (t : Bool) (z : ℤ) → pick t z (pos 0) ≡ pick t (pos 1) (pos 0) *ℤ z
+pick-times true z = sym (sucℤ-*ℤ (pos 0) z ∙ ap (λ (x : ℤ). x +ℤ z) (zero-*ℤ z) ∙ +ℤ-idl z)
+pick-times false z = sym (zero-*ℤ z)
 
 -- a product with an opposite, and with a difference
 pub times-neg-of : (m k : ℤ) → m *ℤ negℤ k ≡ negℤ (m *ℤ k)

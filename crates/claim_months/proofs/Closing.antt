@@ -97,7 +97,7 @@ module _ (c : Claim) (ok : Sound c) (w : ℕ → ℕ → ℕ) (b e : ℕ) where
     is-closed : isClosed c ≡ true
     is-closed = closed-of c b e q .0
 
-    category-known : eqb (category c) 0 ≡ false
+    pub category-known : eqb (category c) 0 ≡ false
     category-known = ne-eqb (category c) 0 (λ z. omega (tests, code-range c ok is-closed .0))
 
     -- .. and the closing month has the claim's category

@@ -54,6 +54,11 @@ pub never-part : {A : Type 0} (P : A → Type 0) (w : A) (ws : List A) → Every
 never-part P w [] h = h
 never-part P w (v ∷ ws) h = (h .0, never-part P v ws (h .1))
 
+-- and the other way round
+pub part-never : {A : Type 0} (P : A → Type 0) (w : A) (ws : List A) → NoPart P w ws → EveryPart (λ (v : A). P v → ⊥) w ws
+part-never P w [] h = h
+part-never P w (v ∷ ws) h = (h .0, part-never P v ws (h .1))
+
 -- totals of sums that agree on every part
 pub total-same : {A B : Type 0} (add : B → B → B) (f g : A → B) (w : A) (ws : List A) → EveryPart (λ (v : A). f v ≡ g v) w ws → total add f w ws ≡ total add g w ws
 unfolding total
