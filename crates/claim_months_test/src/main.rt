@@ -1,4 +1,7 @@
-// Lists the month records of the claims that document 01 names, and of claims at the edges of its rules.
+// Lists the month records of the claims that document 01 names, and of claims at the edges of its rules; and of some in a window and its
+// parts, side by side.
+mod durations;
+
 ghost use Prim.Native.Nat.{_+_, _≤_};
 ghost use lib.ListN.{length};
 ghost use denote.Ref.{now};
@@ -8,6 +11,7 @@ use calendar::MaybeDate;
 use calendar::MaybeDay;
 use claim_months::Claim;
 use claim_months::Listed;
+use durations::durations;
 use std::num::wrapping_add_u64;
 use std::num::wrapping_sub_u32;
 use test_support::dates::date;
@@ -35,6 +39,7 @@ fn main() {
     bad_statuses();
     bad_sequences();
     lists();
+    durations();
 }
 
 fn leap_days() {
