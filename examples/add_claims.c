@@ -9,8 +9,8 @@
 #define STUDY 43
 /* What an answer of 64 bits has above the number refused. */
 #define REFUSED ((uint64_t)1 << 32)
-/* Of 64 cells, the most that a table may have. */
-#define RATES (64 * 958)
+/* Of 1,024 cells, the most that a table may have. */
+#define RATES (1024 * 958)
 
 /* One number more than a table may have, so that a longer one is refused. */
 static uint32_t rates[RATES + 1];

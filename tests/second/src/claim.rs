@@ -35,7 +35,7 @@ pub struct Claim {
     pub maximum: Date,
     pub status: u8,
     pub code: u8,
-    pub cell: u8,
+    pub cell: u16,
 }
 
 /// A claim that passed checks 2 to 5.
@@ -46,7 +46,7 @@ pub struct CheckedClaim {
     pub first_duration: Duration,
     /// Of a closed claim.
     pub termination: Option<Termination>,
-    pub cell: u8,
+    pub cell: u16,
 }
 
 #[derive(Clone, Copy, Debug)]

@@ -17,6 +17,11 @@ fn any_day(rng: &mut Rng) -> Day {
     day_between(rng, 0, Day::LAST.0)
 }
 
+/// A cell of a table of `cells` cells.
+pub fn any_cell(rng: &mut Rng, cells: usize) -> u16 {
+    rng.below(cells as u64) as u16
+}
+
 /// The code of a closed claim.
 pub fn any_code(rng: &mut Rng) -> u8 {
     rng.range(RECOVERY as i64, CHANGE_OF_DEFINITION as i64) as u8
@@ -43,7 +48,7 @@ pub fn sound_claim(rng: &mut Rng) -> Claim {
     };
     let disability = Day((bcd.0 - elimination_period.min(bcd.0)).max(0));
     let mut claim =
-        Claim { number: rng.bits() as u32, disability: disability.date(), bcd: bcd.date(), cell: rng.below(4) as u8, ..Claim::default() };
+        Claim { number: rng.bits() as u32, disability: disability.date(), bcd: bcd.date(), cell: any_cell(rng, 4), ..Claim::default() };
     let mut near = bcd;
     if !rng.one_in(3) {
         let longest = rng.pick(&[3, 62, 800, 6_000, Day::LAST.0]);
@@ -119,7 +124,7 @@ pub fn damage_claim(rng: &mut Rng, claim: &mut Claim) {
                 let bcd = claim.bcd.day_number().unwrap_or(Day(20_000)).0;
                 claim.termination = day_between(rng, bcd - 2, bcd + 1).date();
             }
-            _ => claim.cell = rng.bits() as u8,
+            _ => claim.cell = if rng.one_in(2) { rng.below(256) as u16 } else { rng.bits() as u16 },
         }
     }
 }
@@ -147,7 +152,7 @@ pub fn damage_rates(rng: &mut Rng, rates: &mut Vec<u32>) {
             0 => 0,
             1 => rates.len() - 1,
             2 => rates.len() + 1,
-            3 => 65 * CELL_LENGTH,
+            3 => rates.len() + CELL_LENGTH - 1,
             4 => rates.len() + DURATIONS,
             _ => rng.below(2_000) as usize,
         };
@@ -229,7 +234,7 @@ pub fn damage_file(rng: &mut Rng, file: &mut Vec<u8>) {
         5 => {
             // A byte that should be zero, at the end of the heading, of a claim or of the claims.
             let block = block_of(file, number);
-            let at = rng.pick(&[3, 15, 24, 39, 47, 16 + 32 * 14 + 23, 495, 496, 509]);
+            let at = rng.pick(&[3, 15, 24, 40, 47, 16 + 32 * 14 + 24, 495, 496, 509]);
             block[at] = rng.range(1, 255) as u8;
             seal(block);
         }

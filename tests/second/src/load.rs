@@ -2,6 +2,7 @@
 
 use crate::calendar::{Date, Day};
 use crate::claim::{Claim, CLOSED, DEATH, LIMIT, MAX_OUT, OPEN, RECOVERY, SETTLEMENT};
+use crate::generate::any_cell;
 use crate::rates::DURATIONS;
 use crate::rng::Rng;
 
@@ -30,7 +31,7 @@ fn claim(rng: &mut Rng, number: u32, cells: usize) -> Claim {
         bcd: bcd.date(),
         maximum: maximum.map_or(Date::MISSING, Day::date),
         status: OPEN,
-        cell: rng.below(cells as u64) as u8,
+        cell: any_cell(rng, cells),
         ..Claim::default()
     };
     if rng.one_in(2) {

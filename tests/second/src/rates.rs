@@ -2,6 +2,7 @@
 
 use crate::claim::Duration;
 use crate::Refusal;
+use std::cell::OnceCell;
 
 /// Rates of one kind per cell: durations 2 to 480.
 pub const DURATIONS: usize = 479;
@@ -9,7 +10,7 @@ pub const FIRST_RATED: u32 = 2;
 pub const LAST_RATED: u32 = 480;
 /// Numbers per cell: recovery rates, then death rates.
 pub const CELL_LENGTH: usize = 2 * DURATIONS;
-pub const MOST_CELLS: usize = 64;
+pub const MOST_CELLS: usize = 1_024;
 /// One, in millionths.
 pub const MILLION: u32 = 1_000_000;
 
@@ -26,7 +27,7 @@ pub trait RatesByDuration {
     fn at(&self, duration: Duration) -> (i64, i64);
 }
 
-/// Check 6 of the number of rates: how many cells they are, 1 to 64.
+/// Check 6 of the number of rates: how many cells they are, 1 to 1,024.
 fn cells_of(length: usize) -> Result<usize, Refusal> {
     match length / CELL_LENGTH {
         cells @ 1..=MOST_CELLS if length.is_multiple_of(CELL_LENGTH) => Ok(cells),
@@ -62,12 +63,12 @@ fn are_sound(recovery: &[u32], death: &[u32]) -> bool {
     recovery.iter().zip(death).all(|(&recovery, &death)| recovery as u64 + death as u64 <= MILLION as u64)
 }
 
-/// A lent rate table, whose cells are checked once.
+/// A lent rate table, whose cells are checked once, when first asked for.
 pub struct RateTable<'a> {
     rates: &'a [u32],
     cells: Result<usize, Refusal>,
-    /// Bit i: no duration of cell i fails check 8.
-    sound: u64,
+    /// Of each cell whether no duration fails check 8.
+    sound: Vec<OnceCell<bool>>,
 }
 
 /// The rates of one cell that passed check 8.
@@ -76,14 +77,8 @@ pub struct CellRates<'a>(Kinds<'a>);
 
 impl<'a> RateTable<'a> {
     pub fn new(rates: &'a [u32]) -> RateTable<'a> {
-        let mut table = RateTable { rates, cells: cells_of(rates.len()), sound: 0 };
-        for cell in 0..table.cells.unwrap_or(0) {
-            let Kinds { recovery, death } = Kinds::of(rates, cell);
-            if are_sound(recovery, death) {
-                table.sound |= 1 << cell;
-            }
-        }
-        table
+        let cells = cells_of(rates.len());
+        RateTable { rates, cells, sound: vec![OnceCell::new(); cells.unwrap_or(0)] }
     }
 }
 
@@ -92,10 +87,11 @@ impl<'a> Rates for RateTable<'a> {
 
     fn cell(&self, cell: u32) -> Result<CellRates<'a>, Refusal> {
         let cell = check_cell(cell, self.cells?)?;
-        if self.sound >> cell & 1 == 0 {
+        let rates = Kinds::of(self.rates, cell);
+        if !self.sound[cell].get_or_init(|| are_sound(rates.recovery, rates.death)) {
             return Err(Refusal::Rate);
         }
-        Ok(CellRates(Kinds::of(self.rates, cell)))
+        Ok(CellRates(rates))
     }
 }
 

@@ -154,7 +154,7 @@ fn claim_checks_in_their_order() {
         (Claim { disability: date("2011-02-10"), ..sound }, Some(5)),
         (Claim { disability: date("2011-02-01"), termination: date("2011-02-09"), ..sound }, Some(4)),
         (Claim { termination: date("2011-02-10"), ..sound }, None),
-        (Claim { number: u32::MAX, cell: 255, ..sound }, None),
+        (Claim { number: u32::MAX, cell: u16::MAX, ..sound }, None),
     ];
     for (claim, number) in cases {
         assert_eq!(refusal(&claim), number, "{claim:?}");
@@ -355,11 +355,13 @@ fn adding_refuses_in_the_tables_order() {
         refusal
     };
     assert_eq!(refused(&opened, &claim, &sound), None);
-    for length in [0, 1, CELL_LENGTH - 1, CELL_LENGTH + 1, 65 * CELL_LENGTH] {
+    for length in [0, 1, CELL_LENGTH - 1, CELL_LENGTH + 1, 1_025 * CELL_LENGTH] {
         assert_eq!(refused(&opened, &claim, &vec![0; length]), Some(6));
     }
-    assert_eq!(refused(&opened, &Claim { cell: 63, ..claim }, &vec![0; 64 * CELL_LENGTH]), None);
-    assert_eq!(refused(&opened, &Claim { cell: 64, ..claim }, &vec![0; 64 * CELL_LENGTH]), Some(7));
+    for cells in [64, 65, 256, 1_024] {
+        assert_eq!(refused(&opened, &Claim { cell: cells - 1, ..claim }, &vec![0; cells as usize * CELL_LENGTH]), None);
+        assert_eq!(refused(&opened, &Claim { cell: cells, ..claim }, &vec![0; cells as usize * CELL_LENGTH]), Some(7));
+    }
     assert_eq!(refused(&opened, &Claim { cell: 1, ..claim }, &sound), Some(7));
     assert_eq!(refused(&opened, &claim, &too_high), None);
     assert_eq!(refused(&opened, &Claim { cell: 1, ..claim }, &too_high), Some(8));
@@ -622,12 +624,12 @@ fn the_block_number_is_counted_past_65535() {
 fn every_byte_of_a_block_is_checked() {
     let claim = closed_claim("2009-06-11", "2012-04-29", RECOVERY);
     let mut block = [0; BLOCK_LENGTH];
-    write_block(258, &[claim, Claim { number: 0x0403_0201, cell: 200, ..claim }], &mut block).unwrap();
+    write_block(258, &[claim, Claim { number: 0x0403_0201, cell: 0x03c8, ..claim }], &mut block).unwrap();
     assert_eq!(block[..3], [2, 1, 2]);
     assert_eq!(block[16 + 32..][..12], [1, 2, 3, 4, 217, 7, 3, 13, 217, 7, 6, 11]);
-    assert_eq!(block[16 + 32 + 12..][..11], [220, 7, 4, 29, 0, 0, 0, 0, 1, 1, 200]);
+    assert_eq!(block[16 + 32 + 12..][..12], [220, 7, 4, 29, 0, 0, 0, 0, 1, 1, 200, 3]);
     let Ok(Block::Claims(read)) = read_block(&block, 258) else { panic!() };
-    assert_eq!((read.count, read.claims[0], read.claims[1].cell, read.claims[2]), (2, claim, 200, Claim::default()));
+    assert_eq!((read.count, read.claims[0], read.claims[1].cell, read.claims[2]), (2, claim, 0x03c8, Claim::default()));
     assert_eq!(read_block(&block, 65_536 + 258), Err(Refusal::Block));
     assert_eq!(read_block(&block[..511], 258), Err(Refusal::Block));
     for at in 0..BLOCK_LENGTH {
@@ -638,7 +640,7 @@ fn every_byte_of_a_block_is_checked() {
             // With the check set right only claim fields may differ, and the count within the claims there are.
             seal(&mut damaged);
             let place = (at + 16) % 32;
-            let field = (16..80).contains(&at) && place < 23;
+            let field = (16..80).contains(&at) && place < 24;
             let more_claims = at == 2 && (2 ^ (1 << bit)) > 2 && (2 ^ (1 << bit)) <= 15;
             assert_eq!(read_block(&damaged, 258).is_ok(), field || more_claims || at >= 510, "{at} {bit}");
         }
@@ -675,10 +677,10 @@ fn writing_refuses_without_a_trace() {
 #[test]
 fn blocks_of_records() {
     let claim = closed_claim("2009-06-11", "2012-04-29", RECOVERY);
-    let records = [claim_record(&claim), claim_record(&Claim { number: u32::MAX, cell: 255, ..claim })].concat();
+    let records = [claim_record(&claim), claim_record(&Claim { number: u32::MAX, cell: u16::MAX, ..claim })].concat();
     let (mut block, mut by_claims) = ([9; BLOCK_LENGTH], [9; BLOCK_LENGTH]);
     assert_eq!(write_records(258, &records, &mut block), Ok(()));
-    write_block(258, &[claim, Claim { number: u32::MAX, cell: 255, ..claim }], &mut by_claims).unwrap();
+    write_block(258, &[claim, Claim { number: u32::MAX, cell: u16::MAX, ..claim }], &mut by_claims).unwrap();
     assert_eq!(block, by_claims);
     let mut read = [9; RECORDS_LENGTH];
     assert_eq!(read_records(&block, 258, &mut read), Ok(2));
@@ -696,7 +698,7 @@ fn blocks_of_records() {
     for length in (1..64).filter(|length| length % 32 != 0) {
         assert_eq!(write_records(1, &records[..length], &mut block), Err(Refusal::Block));
     }
-    for at in (23..32).chain(55..64) {
+    for at in (24..32).chain(56..64) {
         let mut wrong = records.clone();
         wrong[at] = 1;
         assert_eq!(write_records(1, &wrong, &mut block), Err(Refusal::Block));

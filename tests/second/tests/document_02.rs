@@ -1,9 +1,11 @@
 //! The second implementation against the change requests of document 02, each with its own examples.
 
+use second::block::{claim_record, read_claim};
 use second::claim::{Claim, CHANGE_OF_DEFINITION, MAX_OUT, RECOVERY, SETTLEMENT};
-use second::examples::{closed_claim, date, day, flat_rates, rows_in, STUDY_WINDOW};
+use second::examples::{closed_claim, date, day, flat_rates, open_claim, rows_in, STUDY_WINDOW};
 use second::generate::claim_file;
-use second::report::report;
+use second::rates::CELL_LENGTH;
+use second::report::{decode_rates, report};
 use second::run::run_file;
 use second::valuation::factor;
 use second::Refusal;
@@ -42,4 +44,36 @@ fn a_change_of_definition_counts_in_c() {
     assert_eq!(numbers(CHANGE_OF_DEFINITION), numbers(RECOVERY));
     assert!(report(&numbers(CHANGE_OF_DEFINITION), |group, c, e| factor(group, c, e).unwrap())
         .contains("\n3 420 1 0 0 0 0 4200000 2100000 1027931\n"));
+}
+
+// No. 4: cells of two bytes.
+
+#[test]
+fn the_cell_has_two_bytes_and_old_files_read_as_they_did() {
+    let mut record = claim_record(&Claim { cell: 0x0201, ..open_claim("2011-02-10") });
+    assert_eq!(record[22..24], [1, 2]);
+    for (bytes, cell) in [([200, 0], 200), ([255, 3], 1_023), ([255, 255], u16::MAX)] {
+        record[22..24].copy_from_slice(&bytes);
+        assert_eq!(read_claim(&record).unwrap().cell, cell);
+    }
+    for at in 24..32 {
+        let mut wrong = record;
+        wrong[at] = 1;
+        assert_eq!(read_claim(&wrong), None);
+    }
+}
+
+#[test]
+fn a_table_has_up_to_1024_cells() {
+    let mut rates = vec![0; 1_024 * CELL_LENGTH];
+    rates[1_023 * CELL_LENGTH..].fill(7);
+    let file = |cell: u16| claim_file(STUDY_WINDOW, &[Claim { cell, ..open_claim("2011-02-10") }], None);
+    let refused = |cell: u16, cells: usize| run_file(&file(cell), &vec![0; cells * CELL_LENGTH]).refused;
+    assert_eq!([(63, 64), (64, 65), (256, 257), (1_023, 1_024)].map(|(cell, cells)| refused(cell, cells)), [0; 4]);
+    assert_eq!([(64, 64), (65, 65), (256, 1), (1_024, 1_024), (u16::MAX, 1_024)].map(|(cell, cells)| refused(cell, cells)), [7; 5]);
+    assert_eq!([0, 1_025].map(|cells| refused(0, cells)), [6; 2]);
+    let groups = run_file(&file(1_023), &rates).study.groups;
+    assert_eq!(groups[1].expected_recoveries, 7 * groups[1].thirtieths);
+    // The program still takes 16.
+    assert!(decode_rates(&vec![0; 17 * CELL_LENGTH * 4]).is_empty());
 }

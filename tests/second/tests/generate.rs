@@ -1,16 +1,16 @@
 //! The random inputs are what they are said to be: sound ones are accepted, damaged ones meet every refusal often.
 
 use second::claim::Claim;
-use second::generate::{claim_file, damage_claim, damage_file, damage_rates, sound_claim, sound_rates, sound_window, wild_date};
+use second::generate::{any_cell, claim_file, damage_claim, damage_file, damage_rates, sound_claim, sound_rates, sound_window, wild_date};
 use second::rng::Rng;
 use second::run::run_file;
 
 #[test]
 fn sound_inputs_are_accepted() {
     let mut rng = Rng::new(201);
-    for cells in 1..=64 {
+    for cells in (1..=65).chain([255, 256, 257, 1_023, 1_024]) {
         let rates = sound_rates(&mut rng, cells);
-        let claims: Vec<Claim> = (0..100).map(|i| Claim { cell: (i % cells) as u8, ..sound_claim(&mut rng) }).collect();
+        let claims: Vec<Claim> = (0..100).map(|i| Claim { cell: (cells - 1 - i % cells) as u16, ..sound_claim(&mut rng) }).collect();
         for claim in &claims {
             let window = sound_window(&mut rng, claim);
             let run = run_file(&claim_file(window, &[*claim], Some(&mut rng)), &rates);
@@ -25,7 +25,7 @@ fn damaged_inputs_meet_every_refusal() {
     let mut met = [0; 12];
     for i in 0..4_000 {
         let mut rates = sound_rates(&mut rng, 2);
-        let mut claims: Vec<Claim> = (0..20).map(|_| Claim { cell: rng.below(2) as u8, ..sound_claim(&mut rng) }).collect();
+        let mut claims: Vec<Claim> = (0..20).map(|_| Claim { cell: any_cell(&mut rng, 2), ..sound_claim(&mut rng) }).collect();
         let mut window = sound_window(&mut rng, &claims[0]);
         match i % 4 {
             0 => damage_claim(&mut rng, &mut claims[17]),

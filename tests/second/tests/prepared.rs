@@ -3,7 +3,7 @@
 use second::calendar::Date;
 use second::claim::Claim;
 use second::examples::flat_rates;
-use second::generate::{claim_file, damage_claim, damage_rates, sound_claim, sound_rates, sound_window};
+use second::generate::{any_cell, claim_file, damage_claim, damage_rates, sound_claim, sound_rates, sound_window};
 use second::rates::{prepare, CELL_LENGTH, DURATIONS};
 use second::rng::Rng;
 use second::run::{run_file, run_prepared_file};
@@ -34,7 +34,7 @@ fn rates_become_their_running_sums() {
 #[test]
 fn other_lengths_and_last_numbers_are_refused_without_a_trace() {
     let sound = |cells: usize| flat_rates(10_000, 5_000).repeat(cells);
-    for length in [0, 1, 2, 958, 960, 958 + 480, 1_916, 64 * 958, 64 * 958 + 2, 65 * 958 + 1] {
+    for length in [0, 1, 2, 958, 960, 958 + 480, 1_916, 1_024 * 958, 1_024 * 958 + 2, 1_025 * 958 + 1] {
         let mut table = vec![0; length];
         assert_eq!(prepare(&mut table), Err(Refusal::RateTable), "{length}");
         assert!(table.iter().all(|&number| number == 0));
@@ -44,7 +44,7 @@ fn other_lengths_and_last_numbers_are_refused_without_a_trace() {
         assert_eq!(prepare(&mut table), Err(Refusal::RateTable));
         assert_eq!(table, table_of(&sound(1), last));
     }
-    for cells in [1, 64] {
+    for cells in [1, 64, 65, 1_024] {
         let mut table = table_of(&sound(cells), 0);
         assert_eq!(prepare(&mut table), Ok(()));
         assert_eq!(prepare(&mut table), Err(Refusal::RateTable));
@@ -62,7 +62,7 @@ fn runs_with_a_prepared_table_are_runs_with_its_rates() {
         if rng.one_in(3) {
             damage_rates(&mut rng, &mut rates);
         }
-        let mut claims: Vec<Claim> = (0..20).map(|_| Claim { cell: rng.below(cells as u64) as u8, ..sound_claim(&mut rng) }).collect();
+        let mut claims: Vec<Claim> = (0..20).map(|_| Claim { cell: any_cell(&mut rng, cells), ..sound_claim(&mut rng) }).collect();
         let window = sound_window(&mut rng, &claims[0]);
         if rng.one_in(3) {
             damage_claim(&mut rng, &mut claims[10]);

@@ -11,7 +11,7 @@ use second::ffi;
 use second::generate::claim_file;
 use second::load::{claims, rates, NINE_YEARS};
 use second::months::listing;
-use second::rates::RateTable;
+use second::rates::{RateTable, MOST_CELLS};
 use second::report::{encode_rates, report};
 use second::run::run_file;
 use second::study::{Study, STUDY_LENGTH};
@@ -165,6 +165,7 @@ fn shape(count: usize) -> Result<(), String> {
         (count / 4, CELLS, "nine years", NINE_YEARS),
         (count / 2, CELLS, "nine years", NINE_YEARS),
         (count, 1, "nine years", NINE_YEARS),
+        (count, MOST_CELLS, "nine years", NINE_YEARS),
     ];
     for (count, cells, years, window) in shapes {
         let load = Load::new(count, cells, window);
@@ -173,8 +174,9 @@ fn shape(count: usize) -> Result<(), String> {
             let (claim, month) = (seconds * 1e9 / count as f64, seconds * 1e9 / load.months());
             format!("{:.1} ms | {claim:.1} ns | {month:.2} ns", seconds * 1e3)
         };
-        let (claims, months) = (grouped(count as f64), grouped(load.months()));
-        println!("| {claims} | {cells} | {years} | {months} | {} | {} | {:.3} |", cost(engine), cost(second), engine / second);
+        let [claims, cells, months] = [count as f64, cells as f64, load.months()].map(grouped);
+        let (engine_cost, second_cost) = (cost(engine), cost(second));
+        println!("| {claims} | {cells} | {years} | {months} | {engine_cost} | {second_cost} | {:.3} |", engine / second);
     }
     Ok(())
 }

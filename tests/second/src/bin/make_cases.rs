@@ -5,7 +5,7 @@ use second::block::{seal, write_block, BLOCK_LENGTH};
 use second::calendar::Date;
 use second::claim::{Claim, CHANGE_OF_DEFINITION, CLOSED, OPEN, RECOVERY, SETTLEMENT};
 use second::examples::STUDY_WINDOW as WINDOW;
-use second::generate::{claim_file, damage_claim, damage_file, damage_rates, sound_claim, sound_rates, sound_window};
+use second::generate::{any_cell, claim_file, damage_claim, damage_file, damage_rates, sound_claim, sound_rates, sound_window};
 use second::rates::{CELL_LENGTH, DURATIONS};
 use second::report::encode_rates;
 use second::rng::Rng;
@@ -78,7 +78,7 @@ fn claim_files() -> Vec<(&'static str, Vec<u8>)> {
     refused_block[2 * BLOCK_LENGTH + 100] ^= 1;
     // Claims of all cells and any length, in the window as it is printed.
     let mut rng = Rng::new(302);
-    let mixed: Vec<Claim> = (0..3_000).map(|i| Claim { cell: (i % 16) as u8, ..sound_claim(&mut rng) }).collect();
+    let mixed: Vec<Claim> = (0..3_000).map(|i| Claim { cell: i % 16, ..sound_claim(&mut rng) }).collect();
     // Open from the first day of the calendar to the last, so that every sum is large.
     let longest = Claim {
         disability: Date::new(1950, 1, 1),
@@ -92,6 +92,7 @@ fn claim_files() -> Vec<(&'static str, Vec<u8>)> {
     vec![
         ("example", of(&[EXAMPLE])),
         ("change_of_definition", of(&[Claim { code: CHANGE_OF_DEFINITION, ..EXAMPLE }])),
+        ("cell_256", of(&[Claim { cell: 256, ..EXAMPLE }])),
         ("twenty", twenty.clone()),
         ("refused_claim", of(&refused_claim)),
         ("refused_block", refused_block),
@@ -147,7 +148,7 @@ fn random(rng: &mut Rng, i: u64) -> (Vec<u8>, Vec<u8>) {
     let cells = rng.range(1, 16) as usize;
     let mut rates = sound_rates(rng, cells);
     let count = rng.range(1, 200) as usize;
-    let mut claims: Vec<Claim> = (0..count).map(|_| Claim { cell: rng.below(cells as u64) as u8, ..sound_claim(rng) }).collect();
+    let mut claims: Vec<Claim> = (0..count).map(|_| Claim { cell: any_cell(rng, cells), ..sound_claim(rng) }).collect();
     let window = sound_window(rng, &claims[0]);
     if i % 3 == 1 {
         damage_claim(rng, &mut claims[count / 2]);

@@ -23,7 +23,7 @@ fn main() {
     };
     let mut load = claims(seed, n as usize, CELLS);
     if cell < CELLS as u64 {
-        load.iter_mut().for_each(|claim| claim.cell = cell as u8);
+        load.iter_mut().for_each(|claim| claim.cell = cell as u16);
     }
     write(&arguments[0], &claim_file(NINE_YEARS, &load, None));
     write(&arguments[1], &encode_rates(&rates(seed, CELLS)));

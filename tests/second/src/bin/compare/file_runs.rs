@@ -4,9 +4,9 @@ use crate::inputs::{closed_claim, date, file_of, flat_rates, sound_claims, sound
 use crate::one_input::{compare_file_study, compare_prepare, hex, same, FirstRun};
 use crate::{test, Outcome, Test};
 use second::block::{write_block, BLOCK_LENGTH};
-use second::claim::{Claim, LIMIT};
+use second::claim::LIMIT;
 use second::ffi;
-use second::generate::{claim_file, damage_claim, damage_file, damage_rates, sound_claim, sound_rates, sound_window, wild_date};
+use second::generate::{any_cell, claim_file, damage_claim, damage_file, damage_rates, sound_claim, sound_rates, sound_window, wild_date};
 use second::rng::Rng;
 use second::run::run_file;
 
@@ -18,7 +18,6 @@ pub const TESTS: &[Test] = &[
     test("study: damaged files", 10, damaged_file),
     test("study: every length of a short file", 11, every_length),
     test("study: rate tables of wrong length, wild rates, missing cells", 12, damaged_rates),
-    test("study: 64 cells", 13, cells_64),
     test("study: the order of the checks", 14, check_order),
     test("study: full at 500,000 claims", 0, full),
     test("study: block numbers to 65,535 and past it", 0, all_block_numbers),
@@ -29,7 +28,7 @@ fn one_claim(rng: &mut Rng) -> Outcome {
     for _ in 0..n {
         let cells = rng.range(1, 2) as usize;
         let rates = sound_rates(rng, cells);
-        let claim = Claim { cell: rng.below(cells as u64) as u8, ..sound_claim(rng) };
+        let claim = sound_claims(rng, 1, cells)[0];
         let window = sound_window(rng, &claim);
         compare_file_study(&claim_file(window, &[claim], None), &rates)?;
     }
@@ -121,23 +120,6 @@ fn damaged_rates(rng: &mut Rng) -> Outcome {
     Ok(n)
 }
 
-fn cells_64(rng: &mut Rng) -> Outcome {
-    let n = 100;
-    for i in 0..n {
-        let cells = rng.range(60, 64) as usize;
-        let mut rates = sound_rates(rng, cells);
-        if i % 4 == 0 {
-            damage_rates(rng, &mut rates);
-        }
-        let mut claims = sound_claims(rng, 60, cells);
-        if i % 3 == 0 {
-            claims[40].cell = rng.pick(&[cells as u8 - 1, cells as u8, 64, 128, 255]);
-        }
-        compare_file_study(&claim_file(STUDY_WINDOW, &claims, None), &rates)?;
-    }
-    Ok(n)
-}
-
 /// Claims with several faults at once, so that the first check of the table decides.
 fn check_order(rng: &mut Rng) -> Outcome {
     let n = 6_000;
@@ -147,7 +129,7 @@ fn check_order(rng: &mut Rng) -> Outcome {
             damage_rates(rng, &mut rates);
         }
         let mut claim = sound_claim(rng);
-        claim.cell = rng.below(3) as u8;
+        claim.cell = any_cell(rng, 3);
         for _ in 0..rng.below(4) {
             damage_claim(rng, &mut claim);
         }

@@ -114,7 +114,7 @@ fn wild(rng: &mut Rng) -> Outcome {
             maximum: wild_date(rng),
             status: if rng.one_in(4) { rng.bits() as u8 } else { rng.below(2) as u8 },
             code: if rng.one_in(4) { rng.bits() as u8 } else { rng.below(8) as u8 },
-            cell: rng.bits() as u8,
+            cell: rng.bits() as u16,
         };
         let (first, last) = if rng.one_in(4) { (wild_date(rng), wild_date(rng)) } else { sound_window(rng, &claim) };
         compare_listing(first, last, &claim, LONG_LIST)?;

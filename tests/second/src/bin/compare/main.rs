@@ -1,9 +1,11 @@
 //! Compares every call of the first implementation with the second one: document 01's examples, and seeded random inputs, long and short,
 //! sound and damaged. A mismatch prints the whole input and ends its test; the last line counts the tests.
 //!
-//! Run: LTD_LIB_DIR=(the directory of libc_abi.a) cargo run --release --features first --bin compare
+//! Run: LTD_LIB_DIR=(the directory of libc_abi.a) cargo run --release --features first --bin compare [-- TEXT]
+//! With TEXT only the tests run whose name has it.
 
 mod blocks;
+mod cells;
 mod codes;
 mod figures;
 mod file_runs;
@@ -18,6 +20,7 @@ mod valuation;
 mod windows;
 
 use second::rng::Rng;
+use std::env::args;
 use std::io::{stdout, Write as _};
 use std::process::exit;
 use std::time::Instant;
@@ -42,6 +45,7 @@ const SUBJECTS: &[&[Test]] = &[
     listing::TESTS,
     month_walk::TESTS,
     codes::TESTS,
+    cells::TESTS,
     file_runs::TESTS,
     prepared::TESTS,
     windows::TESTS,
@@ -54,7 +58,8 @@ const SUBJECTS: &[&[Test]] = &[
 fn main() {
     let (mut passed, mut failed, mut inputs) = (0, 0, 0);
     let begin = Instant::now();
-    for test in SUBJECTS.iter().copied().flatten() {
+    let text = args().nth(1).unwrap_or_default();
+    for test in SUBJECTS.iter().copied().flatten().filter(|test| test.name.contains(&text)) {
         print!("{} (seed {}): ", test.name, test.seed);
         stdout().flush().unwrap();
         match (test.run)(&mut Rng::new(test.seed)) {

@@ -7,7 +7,6 @@ use second::block::{claim_record, seal, write_block, write_window, BLOCK_LENGTH,
 use second::calendar::{Date, Day};
 use second::claim::{Claim, RECOVERY};
 use second::generate::{damage_claim, damage_file, damage_rates, sound_claim, sound_rates, sound_window, wild_date};
-use second::rates::CELL_LENGTH;
 use second::rng::Rng;
 use second::study::{Study, MOST_CLAIMS, MOST_EXPECTED, MOST_THIRTIETHS, STUDY_LENGTH};
 
@@ -19,7 +18,6 @@ pub const TESTS: &[Test] = &[
     test("adding: at each bound of check 9", 43, at_bounds),
     test("adding: numbers outside their fields", 44, outside_fields),
     test("adding: records and lists that have not the form asked for", 45, wrong_form),
-    test("adding: tables of up to 64 cells", 46, cells_64),
     test("windows of block 0: sound and damaged", 47, read_windows),
 ];
 
@@ -334,30 +332,6 @@ fn wrong_form(rng: &mut Rng) -> Outcome {
         must(&mut opened.to_vec(), &cell, &rates, CELL)?;
         must(&mut opened.to_vec(), &record, &rates[1..], RATE_TABLE)?;
         must(&mut opened.to_vec(), &record, &[], RATE_TABLE)?;
-    }
-    Ok(n)
-}
-
-fn cells_64(rng: &mut Rng) -> Outcome {
-    let mut n = 0;
-    for i in 0..60 {
-        let cells = rng.range(60, 64) as usize;
-        let mut rates = sound_rates(rng, cells);
-        if i % 4 == 0 {
-            damage_rates(rng, &mut rates);
-        }
-        if i % 15 == 1 {
-            rates.resize(65 * CELL_LENGTH, 0);
-        }
-        let (_, mut study) = compare_open(STUDY_WINDOW.0, STUDY_WINDOW.1, STUDY_LENGTH)?;
-        for _ in 0..20 {
-            let mut claim = sound_claims(rng, 1, cells)[0];
-            if rng.one_in(4) {
-                claim.cell = rng.pick(&[cells as u8 - 1, cells as u8, 63, 64, 128, 255]);
-            }
-            compare_add(&mut study, &claim_record(&claim), &rates)?;
-            n += 1;
-        }
     }
     Ok(n)
 }

@@ -1,7 +1,7 @@
 //! Prepared tables: made of rates sound and not, and the study of a claim file with them, with other tables in their place, and with lists
 //! that were never prepared.
 
-use crate::inputs::{any_length, flat_rates, sound_claims};
+use crate::inputs::{any_length, flat_rates, missing_cell, sound_claims};
 use crate::one_input::{compare_file_study, compare_plain_run, compare_prepare, compare_prepared_run, same, CELL, FULL, RATE, RATE_TABLE};
 use crate::{test, Outcome, Test};
 use second::calendar::Date;
@@ -12,7 +12,7 @@ use second::rng::Rng;
 
 pub const TESTS: &[Test] = &[
     test("preparing: tables of one or two cells, and again", 52, small_tables),
-    test("preparing: tables of up to 64 cells", 53, large_tables),
+    test("preparing: tables of up to 1,024 cells", 53, large_tables),
     test("preparing: lengths and last numbers", 54, lengths),
     test("preparing: each duration at one and over one", 55, each_duration),
     test("prepared: unsound cells and cells past the table", 56, any_cells),
@@ -98,7 +98,11 @@ fn small_tables(rng: &mut Rng) -> Outcome {
 fn large_tables(rng: &mut Rng) -> Outcome {
     let n = 600;
     for i in 0..n {
-        let cells = if i % 4 == 0 { MOST_CELLS } else { rng.range(3, 64) as usize };
+        let cells = match i % 20 {
+            0 => MOST_CELLS,
+            1 => rng.range(65, 1_023) as usize,
+            _ => rng.range(3, 65) as usize,
+        };
         let (answer, _) = compare_prepare(&table_of(&any_rates(rng, cells), 0))?;
         same(answer, 0, || format!("a table of {cells} cells"))?;
     }
@@ -107,7 +111,7 @@ fn large_tables(rng: &mut Rng) -> Outcome {
 
 fn lengths(rng: &mut Rng) -> Outcome {
     let mut n = 0;
-    for cells in [0, 1, 2, 16, 64, 65] {
+    for cells in [0, 1, 2, 16, 64, 65, MOST_CELLS, MOST_CELLS + 1] {
         for length in (CELL_LENGTH * cells).saturating_sub(1)..=CELL_LENGTH * cells + 3 {
             for last in [0, 1, 2, u32::MAX, rng.bits() as u32] {
                 let mut table = vec![rng.below(500_001) as u32; length];
@@ -156,7 +160,7 @@ fn any_file(rng: &mut Rng, cells: usize) -> Vec<u8> {
     let mut claims = sound_claims(rng, count, cells);
     let window = sound_window(rng, &claims[0]);
     if rng.one_in(8) {
-        claims[count - 1].cell = rng.pick(&[cells as u8, 64, 128, 255]);
+        claims[count - 1].cell = missing_cell(rng, cells) as u16;
     }
     if rng.one_in(16) {
         damage_claim(rng, &mut claims[count - 1]);
@@ -224,7 +228,7 @@ fn other_tables(rng: &mut Rng) -> Outcome {
         }
         must_refuse(&[], true)?;
         if i % 100 == 0 {
-            must_refuse(&table_of(&vec![0; 65 * CELL_LENGTH], 1), true)?;
+            must_refuse(&table_of(&vec![0; (MOST_CELLS + 1) * CELL_LENGTH], 1), true)?;
         }
         // Sums are rates as well, mostly unsound ones.
         compare_plain_run(&file, sums)?;
