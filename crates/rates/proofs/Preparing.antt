@@ -16,7 +16,7 @@ use Rattle.rates.proofs.Laws.{sound-at}
 use Rattle.rates.specs.Prepared.{cellNumbers, mark, marked, runningFrom, preparedCell, preparedCells}
 
 -- a length that check 6 lets through
-pub sound-length : (n : ℕ) → lengthSound n ≡ true → (n % 958 ≡ 0) × (1 ≤ n / 958) × (n / 958 ≤ 64)
+pub sound-length : (n : ℕ) → lengthSound n ≡ true → (n % 958 ≡ 0) × (1 ≤ n / 958) × (n / 958 ≤ 1024)
 unfolding lengthSound
 sound-length n h = let t = simp and-eq-true-iff at h in (omega tests, omega tests, omega tests)
 

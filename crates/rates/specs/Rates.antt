@@ -1,5 +1,5 @@
 -- Document 01, Study: the lent rates, the checks 6 to 8, and the duration groups.
--- Rates are millionths; per cell 479 recovery rates for durations 2 to 480, then 479 death rates; 1 to 64 cells.
+-- Rates are millionths; per cell 479 recovery rates for durations 2 to 480, then 479 death rates; 1 to 1,024 cells (document 02, No. 4).
 use Prim.Native.Nat.{ℕ, zero, suc, _+_, _-_, _*_, _/_, _%_, min}
 use mathlib.Core.Bool.{Bool, true, _&&_}
 use mathlib.Core.List.{List}
@@ -23,9 +23,9 @@ recoveryRate rates cell d = getD rates (cell * 958 + place d) 0
 unfoldable pub deathRate : List ℕ → ℕ → ℕ → ℕ
 deathRate rates cell d = getD rates (cell * 958 + 479 + place d) 0
 
--- 6, rate table: length not 958 times 1 to 64
+-- 6, rate table: length not 958 times 1 to 1,024
 unfoldable pub lengthSound : ℕ → Bool
-lengthSound n = eqb (n % 958) 0 && leb 1 (n / 958) && leb (n / 958) 64
+lengthSound n = eqb (n % 958) 0 && leb 1 (n / 958) && leb (n / 958) 1024
 
 abbrev pub tableSound : List ℕ → Bool
 tableSound rates = lengthSound (length rates)

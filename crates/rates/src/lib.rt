@@ -77,7 +77,7 @@ pub(crate) fn sound(rates: &[u32], cell: u32) -> bool
     true
 }
 
-// Whether a table may have so many numbers: 958 for each of 1 to 64 cells.
+// Whether a table may have so many numbers: 958 for each of 1 to 1,024 cells.
 pub(crate) fn is_table(numbers: usize) -> bool
     ensures { λ r. ⌜ r ≡ lengthSound numbers ⌝ }
 {
@@ -88,7 +88,7 @@ pub(crate) fn is_table(numbers: usize) -> bool
     if cells < 1 {
         return false;
     }
-    cells <= 64
+    cells <= 1024
 }
 
 // The number of the first of the checks 6 to 8 that fails for a table and a cell, or 0.

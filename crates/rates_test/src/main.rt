@@ -8,7 +8,7 @@ use test_support::lists::counting;
 use test_support::print::put;
 use test_support::print::put_next;
 
-// A table's length, and its check with cell 0, 1, 63, 64, 255, 256 and 2^32 - 1.
+// A table's length, and its check with cell 0, 1, 63, 64, 255, 256, 1,023, 1,024 and 2^32 - 1.
 fn put_checks(table: &[u32]) {
     put(b"length");
     put_next(table.len() as u64);
@@ -19,6 +19,8 @@ fn put_checks(table: &[u32]) {
     put_next(rates::check(table, 64) as u64);
     put_next(rates::check(table, 255) as u64);
     put_next(rates::check(table, 256) as u64);
+    put_next(rates::check(table, 1023) as u64);
+    put_next(rates::check(table, 1024) as u64);
     put_next(rates::check(table, 4294967295) as u64);
     put(b"\n");
 }
@@ -30,29 +32,37 @@ fn put_start(table: &[u32], count: usize) {
     }
 }
 
-// The checks of tables of no cell, 1 cell, 64 cells and 65 cells, and of one number less or more than a cell.
-fn put_lengths(table: &[u32; 62270]) {
+// The checks of tables of no cell, 1 cell, 64, 65 and 257 cells, and of one number less or more than a cell.
+fn put_lengths(table: &[u32; 981951]) {
     put_start(table, 0);
     put_start(table, 957);
     put_start(table, 958);
     put_start(table, 959);
     put_start(table, 61312);
     put_start(table, 62270);
+    put_start(table, 246206);
 }
 
 // The same where all rates are 0 but the recovery rate at a place and the death rate of the same cell and duration.
-fn put_tables(place: usize, recovery: u32, death: u32)
-    requires { ⌜ place < 61000 ⌝ }
+fn put_tables(table: &mut [u32; 981951], place: usize, recovery: u32, death: u32)
+    requires { ⌜ place < 981471 ⌝ }
 {
     put(b"place");
     put_next(place as u64);
     put_next(recovery as u64);
     put_next(death as u64);
     put(b"\n");
-    let mut table = [0u32; 62270];
     table[place] = recovery;
     table[place + 479] = death;
-    put_lengths(&table);
+    put_lengths(table);
+    table[place] = 0;
+    table[place + 479] = 0;
+}
+
+// The checks of tables of 1,024 and 1,025 cells.
+fn put_most(table: &[u32; 981951]) {
+    put_start(table, 980992);
+    put_start(table, 981950);
 }
 
 // The recovery and the death rate of a cell at a duration.
@@ -113,15 +123,24 @@ fn put_lasts() {
     put(b"\n");
 }
 
-fn main() {
+// The table is the only one of its size: two of them, 3.9 MB each, don't fit a stack of 8 MB.
+fn put_all_tables(table: &mut [u32; 981951]) {
     // Together 1,000,000: no table is refused for a rate.
-    put_tables(0, 600000, 400000);
+    put_tables(table, 0, 600000, 400000);
     // One more, only at duration 2 of cell 0; only at duration 480.
-    put_tables(0, 600000, 400001);
-    put_tables(478, 400001, 600000);
+    put_tables(table, 0, 600000, 400001);
+    put_tables(table, 478, 400001, 600000);
     // Only in cell 1, by a sum that would be 0 in 32 bits; only at duration 480 of cell 63.
-    put_tables(958, 4294967295, 1);
-    put_tables(60832, 0, 1000001);
+    put_tables(table, 958, 4294967295, 1);
+    put_tables(table, 60832, 0, 1000001);
+    // Only in cell 256, whose low byte is cell 0's.
+    put_tables(table, 245248, 0, 1000001);
+    put_most(table);
+    preparing::put_most(table);
+}
+
+fn main() {
+    put_all_tables(&mut [0u32; 981951]);
     let table = counting();
     put_cell(&table, 0);
     put_cell(&table, 1);

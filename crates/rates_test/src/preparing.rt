@@ -1,4 +1,4 @@
-// Prints what preparing makes of a table of 64 cells, and the checks and sums of a table of either kind.
+// Prints what preparing makes of a table of 65 cells, and the checks and sums of a table of either kind.
 use basics::Duration;
 use rates::Kind;
 use rates::prepared::check_of;
@@ -16,15 +16,17 @@ fn prepare_start(list: &mut [u32], count: usize) {
     }
 }
 
-// The checks of the first `count` numbers of a list with the cells 0, 1, 63, 64 and the last number.
+// The checks of the first `count` numbers of a list with the cells 0, 1, 64, 65, 1,023, 1,024 and the last number.
 fn check_start(kind: Kind, list: &[u32], count: usize) {
     if count <= list.len() {
         let table = &list[0..count];
         put(b"checks");
         put_next(check_of(kind, table, 0) as u64);
         put_next(check_of(kind, table, 1) as u64);
-        put_next(check_of(kind, table, 63) as u64);
         put_next(check_of(kind, table, 64) as u64);
+        put_next(check_of(kind, table, 65) as u64);
+        put_next(check_of(kind, table, 1023) as u64);
+        put_next(check_of(kind, table, 1024) as u64);
         put_next(check_of(kind, table, 4294967295) as u64);
         put(b"\n");
     }
@@ -59,8 +61,8 @@ fn sum_start(kind: Kind, list: &[u32], count: usize) {
     if count <= list.len() {
         let table = &list[0..count];
         put_sums(kind, table, 0);
-        put_sums(kind, table, 63);
         put_sums(kind, table, 64);
+        put_sums(kind, table, 65);
     }
 }
 
@@ -88,7 +90,7 @@ fn put_table(kind: Kind, table: &[u32; 62271], count: usize) {
     sum_start(kind, table, count);
 }
 
-// Numbers of the first, the second and the 64th cell, first and last of each kind of rates, and the mark.
+// Numbers of the first, the second and the 65th cell, first and last of each kind of rates, and the mark.
 fn put_numbers(table: &[u32; 62271]) {
     put(b"numbers");
     put_number(table, 0);
@@ -100,15 +102,15 @@ fn put_numbers(table: &[u32; 62271]) {
     put_number(table, 958);
     put_number(table, 1436);
     put_number(table, 1915);
-    put_number(table, 60354);
-    put_number(table, 60832);
-    put_number(table, 60833);
-    put_number(table, 61311);
     put_number(table, 61312);
+    put_number(table, 61790);
+    put_number(table, 61791);
+    put_number(table, 62269);
+    put_number(table, 62270);
     put(b"\n");
 }
 
-// Lengths that aren't prepared, 64 cells that are, and the same once more.
+// Lengths that aren't prepared, 65 cells that are, and the same once more.
 fn put_lengths(list: [u32; 62271]) -> [u32; 62271] {
     let mut table = list;
     put(b"prepare");
@@ -117,13 +119,12 @@ fn put_lengths(list: [u32; 62271]) -> [u32; 62271] {
     put_prepare(&mut table, 958);
     put_prepare(&mut table, 960);
     put_prepare(&mut table, 62271);
-    put_prepare(&mut table, 61313);
-    put_prepare(&mut table, 61313);
+    put_prepare(&mut table, 62271);
     put(b"\n");
     table
 }
 
-// The first cell of 64 and the last are sound, and the second is over 1,000,000 at duration 480.
+// The first cell of 65 and the last are sound, and the second is over 1,000,000 at duration 480.
 pub(crate) fn put_preparing() {
     let mut table = [0u32; 62271];
     table[0] = 600000;
@@ -133,16 +134,27 @@ pub(crate) fn put_preparing() {
     table[957] = 7;
     table[1436] = 400001;
     table[1915] = 600000;
-    table[60354] = 1000000;
-    table[60832] = 3;
-    table[61311] = 5;
-    put_table(Kind::Plain, &table, 61312);
-    put_checks(Kind::Prepared, &table, 61313);
+    table[61312] = 1000000;
+    table[61790] = 3;
+    table[62269] = 5;
+    put_table(Kind::Plain, &table, 62270);
+    put_checks(Kind::Prepared, &table, 62271);
     let after = put_lengths(table);
     put_numbers(&after);
-    put_checks(Kind::Plain, &after, 61313);
-    put_checks(Kind::Prepared, &after, 61312);
-    put_table(Kind::Prepared, &after, 61313);
+    put_checks(Kind::Plain, &after, 62271);
+    put_checks(Kind::Prepared, &after, 62270);
+    put_table(Kind::Prepared, &after, 62271);
+}
+
+// 1,025 cells, which aren't prepared, and 1,024, which are; then both with the mark 1.
+pub(crate) fn put_most(table: &mut [u32; 981951]) {
+    put(b"prepare");
+    prepare_start(table, 981951);
+    prepare_start(table, 980993);
+    put(b"\n");
+    table[981950] = 1;
+    check_start(Kind::Prepared, table, 980993);
+    check_start(Kind::Prepared, table, 981951);
 }
 
 // Numbers that are no running sums, under the mark of a prepared table: differences below 0.

@@ -204,16 +204,30 @@ fn products(death: u32) {
     factor(1000000, &rates, 0, 2, EVEN, 4, 0.5);
 }
 
-// The paper's figure, then 64 cells, which are a table, and 65, which are none.
+// A cell of the first n rates.
+fn cell_of(rates: &[u32], n: usize, cell: u32) {
+    if n <= rates.len() {
+        factor(n as u64, &rates[0..n], cell, 4, EVEN, 24, 0.5);
+        rate(n as u64, &rates[0..n], cell, 1000000, 4);
+    }
+}
+
+// 65 cells and 1,024, which are tables, and 1,025, which are none.
+fn many(rates: &[u32; 981950]) {
+    cell_of(rates, 62270, 64);
+    cell_of(rates, 62270, 65);
+    cell_of(rates, 980992, 256);
+    cell_of(rates, 980992, 1023);
+    cell_of(rates, 980992, 1024);
+    cell_of(rates, 981950, 0);
+}
+
+// The paper's figure, then many cells.
 fn cells() {
     put(b"cells\n");
     let halves = [250000u32; 958];
     factor(1, &halves, 0, 4, EVEN, 2, 0.5);
-    let most = [0u32; 61312];
-    factor(64, &most, 63, 4, EVEN, 24, 0.5);
-    factor(64, &most, 64, 4, EVEN, 24, 0.5);
-    let many = [0u32; 62270];
-    factor(65, &many, 0, 4, EVEN, 24, 0.5);
+    many(&[0u32; 981950]);
 }
 
 fn main() {
