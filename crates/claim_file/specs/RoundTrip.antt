@@ -27,7 +27,7 @@ pub record ClaimFits (c : Claim) : Type 0 where
   pub maximum-fits : DateFits (c .maximum)
   pub status-fits : c .status < 256
   pub code-fits : c .code < 256
-  pub cell-fits : c .cell < 256
+  pub cell-fits : c .cell < 65536
 
 pub record BlockFits (b : Block) : Type 0 where
   pub places : length (b .claims) ≡ 15

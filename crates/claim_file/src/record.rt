@@ -14,7 +14,9 @@ use crate::bytes::date_at;
 use crate::bytes::four_at;
 use crate::bytes::put_date;
 use crate::bytes::put_four;
+use crate::bytes::put_two;
 use crate::bytes::put_zeros;
+use crate::bytes::two_at;
 use calendar::Date;
 use claim_months::Claim;
 
@@ -52,7 +54,7 @@ pub(crate) fn claim_from(bytes: &[u8], at: usize) -> Claim
         maximum: date_at(bytes, at + 16),
         status: bytes[at + 20],
         code: bytes[at + 21],
-        cell: bytes[at + 22],
+        cell: two_at(bytes, at + 22),
     }
 }
 
@@ -61,7 +63,7 @@ pub(crate) fn is_padded(bytes: &[u8], at: usize) -> bool
     requires { ⌜ at + 32 ≤ length (now bytes) ⌝ }
     ensures { λ r. ⌜ r ≡ recordPadded (now (bytes .entry)) at ⌝ }
 {
-    all_zero(bytes, at + 23, 9)
+    all_zero(bytes, at + 24, 8)
 }
 
 // Whether a list has the 32 bytes of a record at a byte.
@@ -110,8 +112,8 @@ pub(crate) fn put_claim(claim: Claim, at: usize, bytes: &mut [u8])
     put_dates(claim, at + 4, bytes);
     bytes[at + 20] = claim.status;
     bytes[at + 21] = claim.code;
-    bytes[at + 22] = claim.cell;
-    put_zeros(at + 23, 9, bytes);
+    put_two(claim.cell, at + 22, bytes);
+    put_zeros(at + 24, 8, bytes);
 }
 
 // Stores a claim's record at a byte if there is room for it, and says whether there is.

@@ -1,9 +1,9 @@
 // Runs the claim files of data/, whole and in pieces, and reads and writes blocks of them. A file's name is one letter:
 // a the document's example, b empty, c 511 bytes, d block 0 twice, e a window that ends before it starts, f one from no date,
 // g a claim refused in the middle of the third block after fifteen in the second, h a part block at the end, i blocks of 15, 0 and
-// 1 claims, j a bad check, k a byte not zero in a claim, l one past the claims, m one before byte 16, n count 16, o a number right
+// 1 claims, j a bad check, k a byte not zero in a claim, its 24, l one past the claims, m one before byte 16, n count 16, o a number right
 // in its low byte only, p block 0 alone, q a month of -1 thirtieths, r block 0 with a count, s block 0 with a byte not zero past
-// the window, t to w claims refused 2, 3, 5 and 7.
+// the window, t to w claims refused 2, 3, 5 and 7, x a claim in cell 256.
 use claim_file::Block;
 use claim_file::FileRun;
 use claim_file::MaybeDates;
@@ -84,7 +84,7 @@ fn put_file(letter: u8, table: &[u32]) {
 
 fn put_files(table: &[u32]) {
     let mut letter = b'a';
-    while letter < b'x' {
+    while letter < b'y' {
         put_file(letter, table);
         letter += 1;
     }
@@ -217,6 +217,14 @@ fn put_refused_tables() {
     put_file(b'a', &high);
 }
 
+// 257 cells: only the last has rates that aren't 0, at duration 4, in which its claim has 30 thirtieths.
+fn put_wide(table: &mut [u32; 246206]) {
+    table[245250] = 7;
+    table[245729] = 11;
+    put_file(b'x', table);
+    put_file(b'a', table);
+}
+
 fn put_all_pieces(table: &[u32]) {
     put_pieces(b'a', false, table);
     put_pieces(b'a', true, table);
@@ -236,4 +244,6 @@ fn main() {
     put_blocks(b'a');
     put_blocks(b'g');
     put_blocks(b'k');
+    put_blocks(b'x');
+    put_wide(&mut [0u32; 246206]);
 }

@@ -20,7 +20,7 @@ pub struct Claim {
     pub maximum: Date,
     pub status: u8,
     pub code: u8,
-    pub cell: u8,
+    pub cell: u16,
 }
 
 // A window, as two day numbers, both included.

@@ -5,7 +5,7 @@ use test_support::dates::date;
 // How many claims there are. A prime, so that steps of any smaller length come to each of them once.
 pub(crate) const CLAIMS: u32 = 23;
 
-fn with_cell(disability: u32, bcd: u32, cell: u8) -> Claim {
+fn with_cell(disability: u32, bcd: u32, cell: u16) -> Claim {
     Claim {
         number: 1,
         disability: date(disability),
@@ -82,8 +82,10 @@ pub(crate) fn claim(place: u32) -> Claim {
         19 => with_cell(20091012, 20100110, 2),
         20 => with_cell(20091012, 20100110, 1),
         21 => with_status(20091012, 20100110, 20110110, 0, 0),
-        // The second claim once more; past the list, the same closed at the change of definition.
+        // The second claim once more.
         22 => closed(20090313, 20090611, 20120429, 1),
-        _ => closed(20090313, 20090611, 20120429, 6),
+        // Not of the list: the same closed at the change of definition, and a cell whose low byte is cell 0's.
+        23 => closed(20090313, 20090611, 20120429, 6),
+        _ => with_cell(20091012, 20100110, 256),
     }
 }

@@ -242,4 +242,6 @@ fn orders(table: &[u32; 1916]) {
     show_start(given(), 1, table, 1915);
     put(b"one cell");
     show_start(given(), 20, table, 958);
+    put(b"cell 256");
+    show(given(), 24, table);
 }

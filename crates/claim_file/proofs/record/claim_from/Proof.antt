@@ -17,11 +17,11 @@ returns c =
     (d .before .before .date-at2 .ensures)
     (d .before .date-at3 .ensures)
     (d .date-at4 .ensures)
-    refl refl refl
+    refl refl (c .two-at .ensures)
 
 pub claim-from-spec : {M : Type 1} → statement M
 claim-from-spec =
     tie.close
     (tie.spec (λ c κs. search needs) (λ c. search needs) (λ c κs. search needs) (λ c. search needs)
     (λ c κs. search needs) (λ c. search needs) (λ c κs. search needs) (λ c. search needs) (λ c κs. search needs) (λ c. search needs)
-    (λ c. search needs) (λ c. search needs) (λ c. search needs) (λ c. search needs) (λ c. search needs) returns)
+    (λ c. search needs) (λ c. search needs) (λ c. search needs) (λ c. search needs) (λ c κs. search needs) returns)
