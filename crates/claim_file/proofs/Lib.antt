@@ -1,9 +1,10 @@
--- `RoundTrip`: the round trips of the calls. `Feeding`: a file in pieces. `Files`: demand 3 for files. `SameRuns`: runs with a prepared table. `Reading`: a claim block read. `ByteStores`: runs
+-- `RoundTrip`: the round trips of the calls. `Feeding`: a file in pieces. `Files`: demand 3 for files. `SameRuns`: runs with a prepared table. `OlderRuns`: files from before document 02's No. 4. `Reading`: a claim block read. `ByteStores`: runs
 -- of stores, of claims' records among them. The other modules have what these and the proofs of the calls cite.
 pub mod RoundTrip
 pub mod Feeding
 pub mod Files
 pub mod SameRuns
+pub mod OlderRuns
 pub mod Reading
 pub mod ByteStores
 mod BlockTrips

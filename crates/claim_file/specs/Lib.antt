@@ -7,3 +7,4 @@ pub mod Run
 pub mod PreparedRuns
 pub mod Files
 pub mod RoundTrip
+pub mod OlderFiles
