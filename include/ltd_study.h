@@ -2,8 +2,8 @@
    A null list has length 0. A list that is written may overlap no other list of the call; a list too long is taken, its rest untouched.
    A date is the claim file's four bytes as one number, low byte first: year + 65,536 × month + 16,777,216 × day.
    A claim is its record, the 32 bytes of struct ltd_claim; a longer list is taken by its first 32.
-   A refusal is the number of document 01's table. 255 says that a lent list has not the length or form asked for, before any numbered
-   check; nothing is written then.
+   A refusal is the number of document 01's table or of document 02's requests. 255 says that a lent list has not the length or form asked
+   for, before any numbered check; nothing is written then.
    Link with -lc_file -lc_abi: libc_file.a has ltd_file_study, ltd_prepare and ltd_prepared_file_study, libc_abi.a all other calls. Neither needs
    the other. */
 #ifndef LTD_STUDY_H
@@ -59,7 +59,7 @@ uint8_t ltd_prepare(uint32_t *table, size_t table_len);
    that the table is not a prepared one. 255 if out is shorter than 46. */
 uint8_t ltd_prepared_file_study(const uint8_t *file, size_t file_len, const uint32_t *table, size_t table_len, int64_t *out, size_t out_len);
 
-/* z, m and T of a group into out (3 numbers). Answers 0, or 12. 255 if out is shorter than 3. */
+/* z, m and T of a group into out (3 numbers), T without any ceiling. Answers 0, or 12. 255 if out is shorter than 3. */
 uint8_t ltd_factor(uint8_t group, uint32_t terminations, int64_t expected, uint64_t *out, size_t out_len);
 
 /* The valuation rate, or 2^32 + the number refused (6, 7, 8, 12). */
@@ -69,6 +69,14 @@ uint64_t ltd_valuation_rate(const uint32_t *rates, size_t rates_len, uint32_t ce
    numbers or out none. */
 uint8_t ltd_reserve_factor(const uint32_t *rates, size_t rates_len, uint32_t cell, uint32_t first, const uint64_t *t, size_t t_len,
                            uint32_t months, double v, double *out, size_t out_len);
+
+/* The limit on reserves, over at most 2,000 open claims, each three numbers of open_claims: cell, next duration above 24, months left. Into
+   totals (2 numbers) the reserve factors added up with t (five numbers), and with t replaced by 1,300,000 in groups 3 to 5, group 3 kept
+   if group_3_count is 5,000 or more; into t_out (5 numbers) the replaced set if the first total is less, else t. Answers 0 or the number
+   refused (6, 7, 8, 12, 13, 17), t_out and totals untouched. 255 if t has not five numbers, t_out is shorter than 5 or totals than 2. */
+uint8_t ltd_reserve_limit(const uint32_t *rates, size_t rates_len, const uint32_t *open_claims, size_t open_claims_len, const uint64_t *t,
+                          size_t t_len, uint64_t group_3_count, double v, uint64_t *t_out, size_t t_out_len, double *totals,
+                          size_t totals_len);
 
 /* Reads a claim block (512 bytes) at the number due into claims (480 bytes): 32 bytes for each claim, its record, the rest untouched.
    Answers how many claims, or 2^32 + 11 (due 0 is refused too: ltd_read_window reads block 0), claims untouched. 2^32 + 255 if claims is

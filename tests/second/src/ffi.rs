@@ -46,6 +46,21 @@ mod c {
             out_len: usize,
         ) -> u8;
 
+        pub fn ltd_reserve_limit(
+            rates: *const u32,
+            rates_len: usize,
+            open_claims: *const u32,
+            open_claims_len: usize,
+            t: *const u64,
+            t_len: usize,
+            group_3_count: u64,
+            v: f64,
+            t_out: *mut u64,
+            t_out_len: usize,
+            totals: *mut f64,
+            totals_len: usize,
+        ) -> u8;
+
         pub fn ltd_read_block(block: *const u8, block_len: usize, due: u32, claims: *mut u8, claims_len: usize) -> u64;
 
         pub fn ltd_write_block(number: u32, claims: *const u8, claims_len: usize, block: *mut u8, block_len: usize) -> u8;
@@ -122,6 +137,35 @@ pub fn valuation_rate(rates: &[u32], cell: u32, t: u64, duration: u32) -> u64 {
 /// The reserve factor into `out` (1 number), `t` five numbers.
 pub fn reserve_factor(rates: &[u32], cell: u32, first: u32, t: &[u64], months: u32, v: f64, out: &mut [f64]) -> u8 {
     unsafe { c::ltd_reserve_factor(head(rates), rates.len(), cell, first, head(t), t.len(), months, v, head_mut(out), out.len()) }
+}
+
+/// The T that the limit on reserves leaves of `t` (five numbers) into `t_out` (5 numbers), and both totals into `totals` (2 numbers), for
+/// open claims of three numbers each.
+pub fn reserve_limit(
+    rates: &[u32],
+    open_claims: &[u32],
+    t: &[u64],
+    group_3_count: u64,
+    v: f64,
+    t_out: &mut [u64],
+    totals: &mut [f64],
+) -> u8 {
+    unsafe {
+        c::ltd_reserve_limit(
+            head(rates),
+            rates.len(),
+            head(open_claims),
+            open_claims.len(),
+            head(t),
+            t.len(),
+            group_3_count,
+            v,
+            head_mut(t_out),
+            t_out.len(),
+            head_mut(totals),
+            totals.len(),
+        )
+    }
 }
 
 /// The records of a block at the number due into `claims` (480 bytes): how many, or 2^32 + the number refused.

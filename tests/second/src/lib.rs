@@ -21,7 +21,7 @@ pub mod valuation;
 #[cfg(feature = "first")]
 pub mod ffi;
 
-/// The refusals of document 01's table, under their numbers.
+/// The refusals of document 01's table and document 02's requests, under their numbers.
 #[derive(Clone, Copy, Debug, PartialEq, Eq)]
 #[repr(u8)]
 pub enum Refusal {
@@ -38,6 +38,7 @@ pub enum Refusal {
     Block = 11,
     Valuation = 12,
     Discount = 13,
+    OpenClaims = 17,
 }
 
 impl Refusal {

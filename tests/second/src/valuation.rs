@@ -1,4 +1,4 @@
-//! Valuation: z, m, T, the valuation rate and the reserve factor.
+//! Valuation: z, m, T, the valuation rate, the reserve factor and the limit on reserves.
 
 use crate::claim::Duration;
 use crate::rates::{CellRates, RateTable, Rates, FIRST_RATED, LAST_RATED, MILLION};
@@ -13,9 +13,15 @@ const TWICE_A: [u128; 4] = [8, 6, 5, 4];
 const ONE: u128 = MILLION as u128;
 const LEAST_MARGIN: u128 = 30_000;
 const MOST_MARGIN: u128 = 150_000;
-/// T of groups 3 to 5 is at most this, but group 3 with at least 5,000 terminations is not limited.
-const T_LIMIT: u128 = 1_300_000;
-const UNLIMITED_FROM: u128 = 5_000;
+
+/// The limit judged on reserves: T of groups 3 to 5 is replaced by this, but not that of a group 3 with at least 5,000 terminations.
+const T_LIMIT: u64 = 1_300_000;
+const UNLIMITED_FROM: u64 = 5_000;
+pub const MOST_OPEN_CLAIMS: usize = 2_000;
+/// The numbers of an open claim: cell, next duration, months left.
+pub const OPEN_CLAIM_LENGTH: usize = 3;
+/// An open claim's next duration is above this.
+const TWO_YEARS: u32 = 24;
 
 /// z, m and T of a group, in millionths.
 #[derive(Clone, Copy, Debug, PartialEq, Eq)]
@@ -60,14 +66,10 @@ pub fn factor(group: u8, terminations: u32, expected: i64) -> Result<Factor, Ref
         LEAST_MARGIN + smallest(0, MOST_MARGIN - LEAST_MARGIN, |r| 2 * r * r * c >= 1_060_900_000_000 * twice_a)
     };
 
-    let mut t = match e {
+    let t = match e {
         0 => ONE,
         _ => z * 30 * c * (ONE - m) / e + ONE - z,
     };
-    let unlimited = group == 2 || (group == 3 && c >= UNLIMITED_FROM);
-    if !unlimited {
-        t = t.min(T_LIMIT);
-    }
     Ok(Factor { z: z as u64, m: m as u64, t: t as u64 })
 }
 
@@ -126,4 +128,35 @@ pub fn reserve_factor(rates: &RateTable, cell: u32, first: u32, t: &[u64; 5], mo
         running = running.step(g, v);
     }
     Ok(running.sum)
+}
+
+/// The T that the limit on reserves leaves, and the total of the reserve factors with the given and with the replaced T.
+#[derive(Clone, Copy, Debug, PartialEq)]
+pub struct Limited {
+    pub t: [u64; 5],
+    pub given: f64,
+    pub replaced: f64,
+}
+
+/// Judges the limit on the reserves of open claims, three numbers each. Check 17 of the list; then of each claim in order checks 6 to 8,
+/// 12, 13 and 17.
+pub fn reserve_limit(rates: &RateTable, open_claims: &[u32], t: &[u64; 5], group_3_count: u64, v: f64) -> Result<Limited, Refusal> {
+    if !open_claims.len().is_multiple_of(OPEN_CLAIM_LENGTH) || open_claims.len() > MOST_OPEN_CLAIMS * OPEN_CLAIM_LENGTH {
+        return Err(Refusal::OpenClaims);
+    }
+    let mut replaced_t = *t;
+    let replaced_groups = if group_3_count >= UNLIMITED_FROM { 4..=5 } else { 3..=5 };
+    for group in replaced_groups {
+        replaced_t[group - 1] = T_LIMIT;
+    }
+    let (mut given, mut replaced) = (0.0, 0.0);
+    for claim in open_claims.chunks_exact(OPEN_CLAIM_LENGTH) {
+        let (cell, duration, months) = (claim[0], claim[1], claim[2]);
+        given += reserve_factor(rates, cell, duration, t, months, v)?;
+        replaced += reserve_factor(rates, cell, duration, &replaced_t, months, v)?;
+        if duration <= TWO_YEARS {
+            return Err(Refusal::OpenClaims);
+        }
+    }
+    Ok(Limited { t: if given < replaced { replaced_t } else { *t }, given, replaced })
 }

@@ -467,17 +467,6 @@ fn z_m_and_t() {
     assert!(factor(5, 500_000, 1).is_ok());
 }
 
-#[test]
-fn t_is_limited_in_groups_3_to_5() {
-    // Twice as many terminations as expected, full credibility.
-    for (group, c, limited) in [(2, 8_000, false), (3, 4_999, true), (3, 5_000, false), (4, 8_000, true), (5, 8_000, true)] {
-        let Factor { z, m, t } = factor(group, c, 30 * 1_000_000 * c as i64 / 2).unwrap();
-        let full = 1_000_000 - z + z * (1_000_000 - m) * 2 / 1_000_000;
-        assert!(full > 1_300_000);
-        assert_eq!(t, if limited { 1_300_000 } else { full }, "{group} {c}");
-    }
-}
-
 /// z and m by their definitions, one by one.
 #[test]
 fn z_and_m_by_the_letter() {
@@ -497,7 +486,7 @@ fn z_and_m_by_the_letter() {
         let r = m as u128 - 30_000;
         assert!((r == 120_000 || reaches(r)) && (r == 0 || !reaches(r - 1)));
         let full = z as u128 * 30 * c * (1_000_000 - m as u128) / e + 1_000_000 - z as u128;
-        assert_eq!(t as u128, if i == 0 || (i == 1 && c >= 5_000) { full } else { full.min(1_300_000) });
+        assert_eq!(t as u128, full);
     }
 }
 

@@ -4,10 +4,10 @@ use second::block::{claim_record, read_claim};
 use second::claim::{Claim, CHANGE_OF_DEFINITION, MAX_OUT, RECOVERY, SETTLEMENT};
 use second::examples::{closed_claim, date, day, flat_rates, open_claim, rows_in, STUDY_WINDOW};
 use second::generate::claim_file;
-use second::rates::CELL_LENGTH;
+use second::rates::{RateTable, CELL_LENGTH};
 use second::report::{decode_rates, report};
 use second::run::run_file;
-use second::valuation::factor;
+use second::valuation::{factor, reserve_limit, Factor, Limited};
 use second::Refusal;
 
 // No. 2: the walk over a claim's months ends with the exposure.
@@ -76,4 +76,57 @@ fn a_table_has_up_to_1024_cells() {
     assert_eq!(groups[1].expected_recoveries, 7 * groups[1].thirtieths);
     // The program still takes 16.
     assert!(decode_rates(&vec![0; 17 * CELL_LENGTH * 4]).is_empty());
+}
+
+// No. 9: the 1.30 limit judged on reserves.
+
+#[test]
+fn t_has_no_ceiling() {
+    // Twice as many terminations as expected, full credibility.
+    for (group, c) in [(2, 8_000), (3, 4_999), (3, 5_000), (4, 8_000), (5, 8_000)] {
+        let Factor { z, m, t } = factor(group, c, 30 * 1_000_000 * c as i64 / 2).unwrap();
+        assert!(t > 1_300_000);
+        assert_eq!(t, 1_000_000 - z + z * (1_000_000 - m) * 2 / 1_000_000, "{group} {c}");
+    }
+}
+
+#[test]
+fn the_limit_is_judged_on_both_totals() {
+    let rates = flat_rates(300_000, 200_000);
+    let table = RateTable::new(&rates);
+    // g 500,000 gives 0.3125, and 650,000 0.35 / 2 + 0.1225 / 4; two claims, one rounding each.
+    let claims = [0, 25, 2, 0, 480, 2];
+    let limited = |t: [u64; 5], count: u64| reserve_limit(&table, &claims, &t, count, 0.5).unwrap();
+    let one = 0.35 * 0.5 + 0.35 * 0.35 * 0.25;
+    let given = limited([7, 8, 1_000_000, 1_000_000, 1_000_000], 0);
+    assert_eq!(given, Limited { t: [7, 8, 1_000_000, 1_000_000, 1_000_000], given: 0.625, replaced: one + one });
+    // The reserves with the given T are less.
+    let high = [7, 8, 2_000_000, 2_000_000, 2_000_000];
+    assert_eq!(limited(high, 4_999), Limited { t: [7, 8, 1_300_000, 1_300_000, 1_300_000], given: 0.0, replaced: one + one });
+    assert_eq!(limited(high, 5_000), Limited { t: [7, 8, 2_000_000, 1_300_000, 1_300_000], given: 0.0, replaced: one });
+    // Equal totals keep the given T; no claims, no totals.
+    let equal = [7, 8, 1_300_000, 9, 1_300_000];
+    assert_eq!(limited(equal, u64::MAX).t, equal);
+    assert_eq!(reserve_limit(&RateTable::new(&[]), &[], &high, 0, f64::NAN), Ok(Limited { t: high, given: 0.0, replaced: 0.0 }));
+}
+
+#[test]
+fn open_claims_are_refused_in_list_order() {
+    let rates = flat_rates(300_000, 200_000);
+    let refused = |rates: &[u32], claims: &[u32], v: f64| {
+        reserve_limit(&RateTable::new(rates), claims, &[1_000_000; 5], 0, v).err().map(Refusal::number)
+    };
+    let sound = [0, 25, 480];
+    assert_eq!(refused(&rates, &sound.repeat(2_000), 0.5), None);
+    assert_eq!(refused(&[], &sound.repeat(2_001), 0.0), Some(17));
+    assert_eq!([1, 2, 4, 5_999].map(|length| refused(&[], &vec![9; length], 0.0)), [Some(17); 4]);
+    assert_eq!(refused(&[], &sound, 0.0), Some(6));
+    assert_eq!(refused(&rates, &[0, 24, 480, 1, 25, 480], 0.5), Some(17));
+    assert_eq!(refused(&rates, &[1, 25, 480, 0, 24, 480], 0.5), Some(7));
+    assert_eq!(refused(&rates, &[0, 24, 481], 0.5), Some(12));
+    assert_eq!(refused(&rates, &[0, 24, 480], 0.0), Some(13));
+    assert_eq!(
+        [0, 1, 2, 24, 480, 481].map(|first| refused(&rates, &[0, first, 0], 0.5)),
+        [Some(12), Some(12), Some(17), Some(17), None, Some(12)]
+    );
 }

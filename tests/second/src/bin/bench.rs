@@ -1,8 +1,8 @@
 //! Measures the engine beside the second implementation: bench DIR PROGRAM SECOND_PROGRAM [CLAIMS]. What is compared takes turns over one
 //! claim file, and the best of five turns counts. The load stays in DIR as claims.bin and rates.bin.
 //!
-//! Prints three tables: the speed of the calls in memory, of the programs, and of `cat` as the floor; the shape of the cost; and what the
-//! walk over a claim's months costs early and late in the calendar.
+//! Prints four tables: the speed of the calls in memory, of the programs, and of `cat` as the floor; the shape of the cost; what the walk
+//! over a claim's months costs early and late in the calendar; and the calls that have a cost of their own.
 
 use second::block::claim_record;
 use second::calendar::Date;
@@ -15,7 +15,7 @@ use second::rates::{RateTable, MOST_CELLS};
 use second::report::{encode_rates, report};
 use second::run::run_file;
 use second::study::{Study, STUDY_LENGTH};
-use second::valuation::factor;
+use second::valuation::{factor, reserve_limit, Limited, MOST_OPEN_CLAIMS};
 use std::env;
 use std::fs::{self, File};
 use std::hint::black_box;
@@ -44,7 +44,10 @@ fn main() {
         eprintln!("usage: bench DIR PROGRAM SECOND_PROGRAM [CLAIMS, 8 to 500,000]");
         exit(2);
     };
-    let measured = speed(Path::new(&arguments[0]), &arguments[1], &arguments[2], count).and_then(|()| shape(count)).and_then(|()| walk());
+    let measured = speed(Path::new(&arguments[0]), &arguments[1], &arguments[2], count)
+        .and_then(|()| shape(count))
+        .and_then(|()| walk())
+        .and_then(|()| calls());
     if let Err(wrong) = measured {
         eprintln!("bench: {wrong}");
         exit(1);
@@ -250,6 +253,61 @@ fn walk() -> Result<(), String> {
         Ok(())
     };
     row("listings", Walked::listings).and_then(|()| row("additions", Walked::additions))
+}
+
+/// Calls that have a cost of their own, beside the second implementation's.
+fn calls() -> Result<(), String> {
+    println!("\n| call | engine | second | engine / second |");
+    println!("|---|---|---|---|");
+    let row = |call: &str, turns: usize, engine: &dyn Fn() -> Timed, second: &dyn Fn() -> Timed| {
+        let [engine, second] = best(turns, [engine, second])?;
+        println!("| {call} | {:.3} ms | {:.3} ms | {:.3} |", engine * 1e3, second * 1e3, engine / second);
+        Ok::<(), String>(())
+    };
+    let limit = ReserveLimit::new();
+    row("the limit on reserves of 2,000 claims of 480 months", TURNS, &|| limit.engine(), &|| limit.second())
+}
+
+/// Open claims of all cells and durations, and what the limit on their reserves gives.
+struct ReserveLimit {
+    rates: Vec<u32>,
+    claims: Vec<u32>,
+    limited: Limited,
+}
+
+impl ReserveLimit {
+    const T: [u64; 5] = [1_000_000, 900_000, 1_100_000, 1_500_000, 1_400_000];
+    const V: f64 = 0.997;
+
+    fn new() -> ReserveLimit {
+        let rates = rates(SEED, CELLS);
+        let claims: Vec<u32> = (0..MOST_OPEN_CLAIMS as u32).flat_map(|i| [i % CELLS as u32, 25 + i % 456, 480]).collect();
+        let limited = reserve_limit(&RateTable::new(&rates), &claims, &Self::T, 0, Self::V).expect("sound claims");
+        ReserveLimit { rates, claims, limited }
+    }
+
+    fn engine(&self) -> Timed {
+        let (mut t, mut totals) = ([0; 5], [0.0; 2]);
+        let begin = Instant::now();
+        ffi::reserve_limit(black_box(&self.rates), black_box(&self.claims), &Self::T, 0, Self::V, &mut t, &mut totals);
+        let seconds = begin.elapsed().as_secs_f64();
+        self.checked(Limited { t, given: totals[0], replaced: totals[1] }, seconds)
+    }
+
+    fn second(&self) -> Timed {
+        let begin = Instant::now();
+        let limited = reserve_limit(&RateTable::new(black_box(&self.rates)), black_box(&self.claims), &Self::T, 0, Self::V);
+        let seconds = begin.elapsed().as_secs_f64();
+        self.checked(limited.expect("sound claims"), seconds)
+    }
+
+    fn checked(&self, limited: Limited, seconds: f64) -> Timed {
+        if limited == self.limited {
+            Ok(seconds)
+        } else {
+            Err(format!("the limit on reserves gave {limited:?} for {:?}", self.limited))
+        }
+    }
 }
 
 /// A whole number with its thousands apart.

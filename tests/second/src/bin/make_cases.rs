@@ -94,6 +94,7 @@ fn claim_files() -> Vec<(&'static str, Vec<u8>)> {
         ("change_of_definition", of(&[Claim { code: CHANGE_OF_DEFINITION, ..EXAMPLE }])),
         ("cell_256", of(&[Claim { cell: 256, ..EXAMPLE }])),
         ("twenty", twenty.clone()),
+        ("recovered", of(&[EXAMPLE; 2_000])),
         ("refused_claim", of(&refused_claim)),
         ("refused_block", refused_block),
         ("bad_window", claim_file((WINDOW.1, WINDOW.0), &[EXAMPLE], None)),

@@ -15,6 +15,7 @@ mod month_walk;
 mod one_input;
 mod open_and_add;
 mod prepared;
+mod reserve_limit;
 mod short_lists;
 mod valuation;
 mod windows;
@@ -50,6 +51,7 @@ const SUBJECTS: &[&[Test]] = &[
     prepared::TESTS,
     windows::TESTS,
     valuation::TESTS,
+    reserve_limit::TESTS,
     blocks::TESTS,
     short_lists::TESTS,
     open_and_add::TESTS,

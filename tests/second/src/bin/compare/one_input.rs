@@ -9,13 +9,13 @@ use second::months::listing;
 use second::rates::{prepare, RateTable};
 use second::run::{run_file, run_prepared_file, FileRun};
 use second::study::{Study, STUDY_LENGTH};
-use second::valuation::{factor, reserve_factor, valuation_rate, Factor};
+use second::valuation::{factor, reserve_factor, reserve_limit, valuation_rate, Factor, Limited};
 use second::Refusal;
 use std::fmt::{Debug, Write as _};
 
 /// What an answer of 64 bits has more than the number refused.
 pub const REFUSED: u64 = 1 << 32;
-/// Numbers of document 01's table.
+/// Numbers of document 01's table and of document 02's requests.
 pub const STATUS: u8 = 3;
 pub const RATE_TABLE: u8 = 6;
 pub const CELL: u8 = 7;
@@ -23,6 +23,9 @@ pub const RATE: u8 = 8;
 pub const FULL: u8 = 9;
 pub const SHORT_LIST: u8 = 10;
 pub const BLOCK: u8 = 11;
+pub const VALUATION: u8 = 12;
+pub const DISCOUNT: u8 = 13;
+pub const OPEN_CLAIMS: u8 = 17;
 /// A lent list has not the length or form asked for.
 pub const WRONG_FORM: u8 = 255;
 
@@ -43,6 +46,16 @@ pub fn same<T: PartialEq + Debug>(first: T, second: T, input: impl FnOnce() -> S
     } else {
         Err(format!("{}\n  first:  {first:?}\n  second: {second:?}", input()))
     }
+}
+
+/// Each of these answers was had often.
+pub fn had_often(answers: &[u64; 256], wanted: &[u8]) -> Result<(), String> {
+    let total: u64 = answers.iter().sum();
+    for &answer in wanted {
+        let times = answers[answer as usize];
+        same(times >= total / 100, true, || format!("answer {answer} only {times} times of {total}"))?;
+    }
+    Ok(())
 }
 
 /// What a lent list holds, compared bit for bit.
@@ -131,14 +144,32 @@ fn compare_lent<A: Answer, T: Item>(
     leaves: Leaves,
     input: impl Fn() -> String,
 ) -> Result<(A, Vec<T>), String> {
-    let (mut one, mut two) = (before.to_vec(), before.to_vec());
-    let (answer, answer_2) = (first(&mut one), second(&mut two));
+    let none: &[u8] = &[];
+    let (answer, list, _) = compare_two_lent((before, none), |list, _| first(list), |list, _| second(list), leaves, input)?;
+    Ok((answer, list))
+}
+
+/// As `compare_lent`, with two lists lent.
+fn compare_two_lent<A: Answer, T: Item, U: Item>(
+    before: (&[T], &[U]),
+    first: impl FnOnce(&mut [T], &mut [U]) -> A,
+    second: impl FnOnce(&mut [T], &mut [U]) -> A,
+    leaves: Leaves,
+    input: impl Fn() -> String,
+) -> Result<(A, Vec<T>, Vec<U>), String> {
+    let lists = || (before.0.to_vec(), before.1.to_vec());
+    let (mut one, mut two) = (lists(), lists());
+    let (answer, answer_2) = (first(&mut one.0, &mut one.1), second(&mut two.0, &mut two.1));
     same(answer, answer_2, &input)?;
-    same_list(&one, &two, || format!("{}, answered {answer:?}", input()))?;
+    let answered = || format!("{}, answered {answer:?}", input());
+    same_list(&one.0, &two.0, answered)?;
+    same_list(&one.1, &two.1, answered)?;
     if leaves(answer.refusal()) {
-        same_list(&one, before, || format!("{}, refused {answer:?} and written all the same (second: before)", input()))?;
+        let written = || format!("{}, refused {answer:?} and written all the same (second: before)", input());
+        same_list(&one.0, before.0, written)?;
+        same_list(&one.1, before.1, written)?;
     }
-    Ok((answer, one))
+    Ok((answer, one.0, one.1))
 }
 
 /// The month records of a claim into a list of `length` numbers.
@@ -317,6 +348,39 @@ pub fn compare_reserve_factor(rates: &[u32], cell: u32, first: u32, t: &[u64; 5]
         },
     )?;
     Ok(answer)
+}
+
+/// Judges the limit on reserves with both, into lists of `lengths` numbers for T and the totals; the answer and the first one's lists.
+pub fn compare_reserve_limit(
+    rates: &[u32],
+    open_claims: &[u32],
+    t: &[u64],
+    group_3_count: u64,
+    v: f64,
+    lengths: [usize; 2],
+) -> Result<(u8, Vec<u64>, Vec<f64>), String> {
+    compare_two_lent(
+        (&pattern(lengths[0]), &pattern(lengths[1])),
+        |t_out, totals| ffi::reserve_limit(rates, open_claims, t, group_3_count, v, t_out, totals),
+        |t_out, totals| {
+            let (Ok(t), Some(t_out), Some(totals)) = (t.try_into(), t_out.first_chunk_mut::<5>(), totals.first_chunk_mut::<2>()) else {
+                return WRONG_FORM;
+            };
+            let limited = reserve_limit(&RateTable::new(rates), open_claims, t, group_3_count, v);
+            if let Ok(Limited { t, given, replaced }) = limited {
+                (*t_out, *totals) = (t, [given, replaced]);
+            }
+            answer(&limited)
+        },
+        EACH,
+        || {
+            let (claims, bits) = (list(open_claims), v.to_bits());
+            format!(
+                "open claims {claims}, T {t:?}, group 3 count {group_3_count}, V {v:e} (bits {bits:#x}), lists of {lengths:?}, rates {}",
+                list(rates)
+            )
+        },
+    )
 }
 
 /// Reads a block with both into a list of `length` bytes; the answer and the first one's list.

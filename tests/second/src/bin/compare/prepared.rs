@@ -2,7 +2,9 @@
 //! that were never prepared.
 
 use crate::inputs::{any_length, flat_rates, missing_cell, sound_claims};
-use crate::one_input::{compare_file_study, compare_plain_run, compare_prepare, compare_prepared_run, same, CELL, FULL, RATE, RATE_TABLE};
+use crate::one_input::{
+    compare_file_study, compare_plain_run, compare_prepare, compare_prepared_run, had_often, same, CELL, FULL, RATE, RATE_TABLE,
+};
 use crate::{test, Outcome, Test};
 use second::calendar::Date;
 use second::claim::Claim;
@@ -166,16 +168,6 @@ fn any_file(rng: &mut Rng, cells: usize) -> Vec<u8> {
         damage_claim(rng, &mut claims[count - 1]);
     }
     claim_file(window, &claims, None)
-}
-
-/// Each of these answers was had often.
-fn had_often(answers: &[u64; 256], wanted: &[u8]) -> Result<(), String> {
-    let total: u64 = answers.iter().sum();
-    for &answer in wanted {
-        let times = answers[answer as usize];
-        same(times >= total / 100, true, || format!("answer {answer} only {times} times of {total}"))?;
-    }
-    Ok(())
 }
 
 fn any_cells(rng: &mut Rng) -> Outcome {

@@ -11,7 +11,7 @@ pub const TESTS: &[Test] = &[
     test("z, m, T: random", 18, factor_random),
     test("z, m, T: at the bounds of z", 19, factor_z_bounds),
     test("z, m, T: every C", 20, factor_every_c),
-    test("z, m, T: at the limit of T", 21, factor_t_limit),
+    test("z, m, T: about the limit on reserves, which is no ceiling", 21, factor_t_limit),
     test("z, m, T: refused", 22, factor_refused),
     test("valuation rate: random", 23, valuation_rate_random),
     test("valuation rate: at whole millionths and at one", 24, valuation_rate_bounds),
@@ -181,13 +181,13 @@ fn valuation_rate_refused(rng: &mut Rng) -> Outcome {
 }
 
 /// Five T: plausible ones, or any.
-fn five_t(rng: &mut Rng) -> [u64; 5] {
+pub fn five_t(rng: &mut Rng) -> [u64; 5] {
     let any = rng.one_in(4);
     std::array::from_fn(|_| if any { any_length(rng) } else { rng.range(0, 2_000_000) as u64 })
 }
 
 /// A sound discount: near one, anywhere, or very small.
-fn discount(rng: &mut Rng) -> f64 {
+pub fn discount(rng: &mut Rng) -> f64 {
     let fraction = (rng.below(1 << 53) + 1) as f64 / (1u64 << 53) as f64;
     match rng.below(5) {
         0 => fraction,
