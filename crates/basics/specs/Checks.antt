@@ -1,4 +1,4 @@
--- Document 01, the table of refusals: the numbers under their words, and the first check that failed.
+-- Document 01, the table of refusals, and the numbers that document 02 adds: each under its word, and the first check that failed.
 use Prim.Native.Nat.{ℕ}
 use mathlib.Core.Bool.{Bool}
 use lib.Dec.{eqb}
@@ -43,6 +43,10 @@ refuse-valuation = 12
 
 abbrev pub refuse-discount : ℕ
 refuse-discount = 13
+
+-- document 02, request No. 9: a list of open claims that is too long or has a part claim at its end, or a duration of 24 or less
+abbrev pub refuse-open-claims : ℕ
+refuse-open-claims = 17
 
 -- a check: 0 where the test says that all is sound, else its number
 abbrev pub check : Bool → ℕ → ℕ

@@ -1,4 +1,4 @@
-// The numbers of document 01's table of refusals, under its words.
+// The numbers of document 01's table of refusals, under its words, and those that document 02 adds.
 pub const WINDOW: u8 = 1;
 
 pub const DATE: u8 = 2;
@@ -24,3 +24,5 @@ pub const BLOCK: u8 = 11;
 pub const VALUATION: u8 = 12;
 
 pub const DISCOUNT: u8 = 13;
+
+pub const OPEN_CLAIMS: u8 = 17;

@@ -1,9 +1,10 @@
 -- What each call for C and Rust answers, and what each lent list holds at exit, on every input, in terms of the layers below.
 use Prim.Native.Nat.{ℕ, _+_, _*_, _/_, _%_}
+use mathlib.Core.Bool.{Bool, _&&_}
 use mathlib.Core.List.{List, [], _∷_}
 use lib.ListN.{length}
 use lib.Seq.{sets}
-use lib.Dec.{eqb}
+use lib.Dec.{leb, eqb}
 use Rattle.calendar.specs.declared.Date.{Date}
 use Rattle.basics.specs.Pick.{pick}
 use Rattle.valuation.specs.declared.MaybeRate.{MaybeRate}
@@ -13,6 +14,7 @@ use Rattle.valuation.specs.declared.MaybeFactor.the-variants as factored
 use lib.Ieee.{Float}
 use Rattle.valuation.specs.declared.Reserve.{Reserve}
 use Rattle.valuation.specs.declared.Reserve.the-variants as reserved
+use Rattle.valuation.specs.declared.LimitAnswer.{LimitAnswer}
 use Rattle.study_list.specs.Lent.{answered, stored}
 
 -- a refusal where the answer is a number: 2^32 + the number refused
@@ -52,6 +54,20 @@ reserveAnswered t old r = pick (eqb (length t) 5) (answered 1 old (reserveNumber
 
 unfoldable pub reserveAfter : List ℕ → List Float → Reserve → List Float
 reserveAfter t old r = pick (eqb (length t) 5) (stored 1 old (reserveStored old r)) old
+
+-- ltd_reserve_limit: T has five numbers, and there is room for five and for both totals
+unfoldable pub limitLent : List ℕ → List ℕ → List Float → Bool
+limitLent t out totals = eqb (length t) 5 && leb 5 (length out) && leb 2 (length totals)
+
+unfoldable pub limitAnswered : List ℕ → List ℕ → List Float → LimitAnswer → ℕ
+limitAnswered t out totals a = pick (limitLent t out totals) (a .refused) 255
+
+-- the set of T and both totals, the given one first, or both lists as they were
+unfoldable pub limitSet : List ℕ → List ℕ → List Float → LimitAnswer → List ℕ
+limitSet t out totals a = pick (limitLent t out totals && eqb (a .refused) 0) (sets out 0 (a .t)) out
+
+unfoldable pub limitTotals : List ℕ → List ℕ → List Float → LimitAnswer → List Float
+limitTotals t out totals a = pick (limitLent t out totals && eqb (a .refused) 0) (sets totals 0 (a .given ∷ a .replaced ∷ [])) totals
 
 -- a date as one number
 unfoldable pub dateNumber : Date → ℕ

@@ -4,8 +4,12 @@ ghost use denote.Ref.{now};
 ghost use Rattle.valuation.specs.Rate.{rateIn};
 ghost use Rattle.valuation.specs.Factor.{factorIn};
 ghost use Rattle.valuation.specs.Reserve.{reserveIn};
+ghost use Prim.Native.Nat.{_≤_};
+ghost use lib.ListN.{length};
+ghost use lib.Seq.{sets};
+ghost use Rattle.valuation.specs.ReserveLimit.{limitOf};
 ghost use Rattle.study_list.specs.Lent.{answered, stored};
-ghost use Rattle.c_abi.specs.Abi.{rateNumber, factorNumber, factorStored, reserveAnswered, reserveAfter};
+ghost use Rattle.c_abi.specs.Abi.{rateNumber, factorNumber, factorStored, reserveAnswered, reserveAfter, limitAnswered, limitSet, limitTotals};
 use basics::Duration;
 use valuation::MaybeFactor;
 use valuation::MaybeRate;
@@ -42,6 +46,14 @@ pub extern "C" fn ltd_factor(group: u8, terminations: u32, expected: i64, out: &
     }
 }
 
+// The five T of a list that has five numbers.
+fn five(t: &[u64]) -> [u64; 5]
+    requires { ⌜ length (now t) ≡ 5 ⌝ }
+    ensures { λ r. ⌜ r ≡ now (t .entry) ⌝ }
+{
+    [t[0], t[1], t[2], t[3], t[4]]
+}
+
 // The reserve factor.
 #[no_mangle]
 pub extern "C" fn ltd_reserve_factor(
@@ -62,13 +74,65 @@ pub extern "C" fn ltd_reserve_factor(
     if out.len() < 1 {
         return 255;
     }
-    let five = [t[0], t[1], t[2], t[3], t[4]];
     let first = Duration(first);
-    match valuation::reserve_factor::reserve_factor(rates, cell, first, five, months, v) {
+    match valuation::reserve_factor::reserve_factor(rates, cell, first, five(t), months, v) {
         Reserve::Factor(factor) => {
             out[0] = factor;
             0
         }
         Reserve::Refused(number) => number,
     }
+}
+
+// Stores five T from the first place on.
+fn put_five(t: [u64; 5], out: &mut [u64])
+    requires { ⌜ 5 ≤ length (now out) ⌝ }
+    ensures { λ _. ⌜ now (out .exit) ≡ sets (now (out .entry)) 0 t ⌝ }
+{
+    out[0] = t[0];
+    out[1] = t[1];
+    out[2] = t[2];
+    out[3] = t[3];
+    out[4] = t[4];
+}
+
+// The set of T that the limit on reserves allows, and both totals: with the given T, and with T replaced.
+#[no_mangle]
+pub extern "C" fn ltd_reserve_limit(
+    rates: &[u32],
+    open_claims: &[u32],
+    t: &[u64],
+    group_3_count: u64,
+    v: f64,
+    t_out: &mut [u64],
+    totals: &mut [f64],
+) -> u8
+    ensures { λ r. ⌜ r ≡ limitAnswered (now (t .entry)) (now («t_out» .entry)) (now (totals .entry)) (limitOf (now (rates .entry)) (now («open_claims» .entry)) (now (t .entry)) «group_3_count» v) ⌝ }
+    ensures { λ _. ⌜ now («t_out» .exit) ≡ limitSet (now (t .entry)) (now («t_out» .entry)) (now (totals .entry)) (limitOf (now (rates .entry)) (now («open_claims» .entry)) (now (t .entry)) «group_3_count» v) ⌝ }
+    ensures { λ _. ⌜ now (totals .exit) ≡ limitTotals (now (t .entry)) (now («t_out» .entry)) (now (totals .entry)) (limitOf (now (rates .entry)) (now («open_claims» .entry)) (now (t .entry)) «group_3_count» v) ⌝ }
+{
+    if t.len() != 5 {
+        return 255;
+    }
+    if t_out.len() < 5 {
+        return 255;
+    }
+    if totals.len() < 2 {
+        return 255;
+    }
+    let answer = valuation::reserve_limit::reserve_limit(
+        rates,
+        open_claims,
+        five(t),
+        group_3_count,
+        v,
+    );
+    if answer.refused != 0 {
+        return answer.refused;
+    }
+    let chosen = answer.t;
+    put_five(chosen, t_out);
+    totals[0] = answer.given;
+    totals[1] = answer.replaced;
+    0
 }

@@ -1,9 +1,10 @@
-// The reserve factor and the valuation rate at the edges of each check and between them. Each line has the number that varies,
-// or else a running number, and the answer. A factor is written as its bits.
+// The reserve factor, the valuation rate and the limit on reserves at the edges of each check and between them. Each line has the
+// number that varies, or else a running number, and the answer. A factor or a total is written as its bits.
 use basics::Duration;
 use libc::STDOUT_FILENO;
 use test_support::lists::filled;
 use test_support::print::put;
+use test_support::print::put_next;
 use test_support::print::put_number;
 use valuation::MaybeRate;
 use valuation::Reserve;
@@ -48,6 +49,34 @@ fn rate(case: u64, rates: &[u32], cell: u32, t: u64, duration: u32) {
             put_number(g as u64);
         }
         MaybeRate::Refused(n) => refused(n),
+    }
+    put(b"\n");
+}
+
+fn five(t: [u64; 5]) {
+    put(b": T");
+    put_next(t[0]);
+    put_next(t[1]);
+    put_next(t[2]);
+    put_next(t[3]);
+    put_next(t[4]);
+}
+
+// The answer for a list of open claims, five T, the termination count of group 3 and a discount.
+fn limit(case: u64, rates: &[u32], list: &[u32], t: [u64; 5], count: u64, v: f64) {
+    put_number(case);
+    let answer = valuation::reserve_limit::reserve_limit(rates, list, t, count, v);
+    let given = f64::to_bits(answer.given);
+    let replaced = f64::to_bits(answer.replaced);
+    if answer.refused != 0 {
+        refused(answer.refused);
+    } else {
+        let chosen = answer.t;
+        five(chosen);
+        put(b" given ");
+        io::print_hex(STDOUT_FILENO, given, 16);
+        put(b" replaced ");
+        io::print_hex(STDOUT_FILENO, replaced, 16);
     }
     put(b"\n");
 }
@@ -230,6 +259,134 @@ fn cells() {
     many(&[0u32; 981950]);
 }
 
+// Claims of groups 3 to 5, some across a group's end, in two orders.
+fn judged(case: u64, rates: &[u32], t: [u64; 5], count: u64) {
+    let claims = [0, 25, 120, 1, 61, 300, 0, 121, 480, 1, 480, 7, 0, 60, 2];
+    limit(case, rates, &claims, t, count, 0.997);
+    let turned = [0, 60, 2, 1, 480, 7, 0, 121, 480, 1, 61, 300, 0, 25, 120];
+    limit(case, rates, &turned, t, count, 0.997);
+}
+
+// Below 1.30, above it, and above it in one group only; about 5,000 terminations of group 3.
+fn limits(rates: &[u32]) {
+    put(b"limit\n");
+    judged(1, rates, EVEN, 0);
+    judged(2, rates, UNEVEN, 4999);
+    judged(3, rates, [1000000, 1000000, 1300000, 1300000, 1300000], 0);
+    judged(4, rates, [2000000, 2000000, 1300001, 1300000, 1300000], 0);
+    judged(5, rates, [2000000, 2000000, 1300000, 1500000, 1300000], 0);
+    judged(
+        6,
+        rates,
+        [1400000, 500000, 1900000, 1600000, 18446744073709551615],
+        0,
+    );
+    judged(
+        4999,
+        rates,
+        [900000, 900000, 2000000, 1200000, 1310000],
+        4999,
+    );
+    judged(
+        5000,
+        rates,
+        [900000, 900000, 2000000, 1200000, 1310000],
+        5000,
+    );
+    judged(
+        5001,
+        rates,
+        [900000, 900000, 2000000, 1200000, 1400000],
+        5001,
+    );
+    judged(
+        7,
+        rates,
+        [900000, 900000, 2000000, 1200000, 1400000],
+        18446744073709551615,
+    );
+}
+
+// No claims: nothing else is looked at. Claims of one group: the other groups' T are replaced all the same, or kept.
+fn few_claims(rates: &[u32]) {
+    put(b"few claims\n");
+    let zero = 0.0f64;
+    let none = [0u32; 0];
+    let short = [0u32; 957];
+    limit(0, &none, &none, UNEVEN, 0, zero / zero);
+    limit(0, &short, &none, [0; 5], 4294967296, 2.0);
+    let fifth = [0, 121, 240];
+    limit(
+        1,
+        rates,
+        &fifth,
+        [1000000, 1000000, 2000000, 2000000, 1300000],
+        0,
+        0.997,
+    );
+    limit(
+        2,
+        rates,
+        &fifth,
+        [1000000, 1000000, 2000000, 2000000, 1300001],
+        0,
+        0.997,
+    );
+    limit(
+        3,
+        rates,
+        &fifth,
+        [1000000, 1000000, 900000, 900000, 2000000],
+        0,
+        0.997,
+    );
+    let paid = [0, 25, 0, 1, 480, 0];
+    limit(4, rates, &paid, [2000000; 5], 0, 1.0);
+}
+
+// One claim, with a sound one before it.
+fn second_claim(case: u64, rates: &[u32], cell: u32, duration: u32, months: u32, v: f64) {
+    let claims = [1, 25, 10, cell, duration, months];
+    limit(case, rates, &claims, EVEN, 0, v);
+}
+
+fn claim_checks(rates: &[u32]) {
+    put(b"open claims\n");
+    second_claim(24, rates, 0, 24, 10, 0.997);
+    second_claim(25, rates, 0, 25, 480, 0.997);
+    second_claim(480, rates, 0, 480, 480, 0.997);
+    second_claim(481, rates, 0, 481, 10, 0.997);
+    second_claim(2, rates, 0, 2, 10, 0.997);
+    second_claim(1, rates, 0, 1, 10, 0.997);
+    second_claim(481, rates, 0, 24, 481, 0.997);
+    second_claim(2, rates, 2, 24, 481, 0.997);
+    second_claim(65536, rates, 65536, 25, 10, 0.997);
+    second_claim(4294967295, rates, 4294967295, 25, 10, 0.997);
+    second_claim(0, rates, 0, 25, 10, 1.5);
+    let first_short = [0, 24, 10, 2, 25, 10];
+    limit(17, rates, &first_short, EVEN, 0, 0.997);
+    limit(13, rates, &first_short, EVEN, 0, 0.0);
+    let first_missing = [2, 25, 10, 0, 24, 10];
+    limit(7, rates, &first_missing, EVEN, 0, 0.997);
+    let short = [0u32; 957];
+    limit(6, &short, &first_short, EVEN, 0, 0.0);
+    limit(8, &[500001; 958], &first_short, EVEN, 0, 0.0);
+}
+
+// Up to 2,000 claims, and none left over.
+fn list_lengths() {
+    put(b"list of open claims\n");
+    let cells = [700u32; 24908];
+    limit(5997, &cells, &[25u32; 5997], EVEN, 0, 0.997);
+    limit(6000, &cells, &[25u32; 6000], EVEN, 0, 0.997);
+    limit(6001, &cells, &[25u32; 6001], EVEN, 0, 0.997);
+    limit(6003, &cells, &[25u32; 6003], EVEN, 0, 0.997);
+    limit(1, &cells, &[25], EVEN, 0, 0.997);
+    limit(2, &cells, &[0, 24], EVEN, 0, 0.997);
+    let none = [0u32; 0];
+    limit(4, &none, &[0, 24, 1, 0], EVEN, 0, 0.0);
+}
+
 fn main() {
     let rates = table();
     discounts(&rates);
@@ -246,4 +403,8 @@ fn main() {
     products(500000);
     products(1000000);
     cells();
+    limits(&rates);
+    few_claims(&rates);
+    claim_checks(&rates);
+    list_lengths();
 }

@@ -27,27 +27,33 @@ module _ (rates : List ℕ) (cell k : ℕ) (e : k ≡ rateCheck rates cell) (t d
   unfolding rateIn valuationCheck _then_
   rate-found h f = simp (← e, h, f)
 
-module _ (rates : List ℕ) (cell k : ℕ) (e : k ≡ rateCheck rates cell) (first : ℕ) (t : List ℕ) (months : ℕ) (v : Float) where
-  pub reserve-table : (k ≡ 0 → ⊥) → reserve.Refused k ≡ reserveIn rates cell first t months v
-  unfolding reserveIn reserveCheck _then_
+module _ (rates : List ℕ) (cell k : ℕ) (e : k ≡ rateCheck rates cell) (first months : ℕ) (v : Float) where
+  pub reserve-table : (k ≡ 0 → ⊥) → k ≡ reserveCheck rates cell first months v
+  unfolding reserveCheck _then_
   reserve-table h = rw (← e) (simp (ne-eqb k 0 h))
 
-  pub reserve-duration :
-      k ≡ 0 → (durationSound first && leb months 480) ≡ false → reserve.Refused 12 ≡ reserveIn rates cell first t months v
-  unfolding reserveIn reserveCheck _then_
+  pub reserve-duration : k ≡ 0 → (durationSound first && leb months 480) ≡ false → 12 ≡ reserveCheck rates cell first months v
+  unfolding reserveCheck _then_
   reserve-duration h f = simp (← e, h, f)
 
   pub reserve-discount :
-      k ≡ 0 → (durationSound first && leb months 480) ≡ true → discountSound v ≡ false
-      → reserve.Refused 13 ≡ reserveIn rates cell first t months v
-  unfolding reserveIn reserveCheck _then_
+      k ≡ 0 → (durationSound first && leb months 480) ≡ true → discountSound v ≡ false → 13 ≡ reserveCheck rates cell first months v
+  unfolding reserveCheck _then_
   reserve-discount h f g = simp (← e, h, f, g)
 
-  pub reserve-found :
-      k ≡ 0 → (durationSound first && leb months 480) ≡ true → discountSound v ≡ true
-      → reserve.Factor (reserveOf rates cell first t months v) ≡ reserveIn rates cell first t months v
-  unfolding reserveIn reserveCheck _then_
-  reserve-found h f g = simp (← e, h, f, g)
+  pub reserve-passes :
+      k ≡ 0 → (durationSound first && leb months 480) ≡ true → discountSound v ≡ true → 0 ≡ reserveCheck rates cell first months v
+  unfolding reserveCheck _then_
+  reserve-passes h f g = simp (← e, h, f, g)
+
+module _ (rates : List ℕ) (cell first : ℕ) (t : List ℕ) (months : ℕ) (v : Float) (k : ℕ) (e : k ≡ reserveCheck rates cell first months v) where
+  pub reserve-refused : (k ≡ 0 → ⊥) → reserve.Refused k ≡ reserveIn rates cell first t months v
+  unfolding reserveIn
+  reserve-refused h = rw (← e) (simp (ne-eqb k 0 h))
+
+  pub reserve-found : k ≡ 0 → reserve.Factor (reserveOf rates cell first t months v) ≡ reserveIn rates cell first t months v
+  unfolding reserveIn
+  reserve-found h = simp (← e, h)
 
 -- the code's two tests of the discount, with its constants by their bits, are check 13's
 module _ (v : Float) where

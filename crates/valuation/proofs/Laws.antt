@@ -1,4 +1,4 @@
--- Laws of z, m and T over any group: `largest` and `smallest` are what they are named for, and no other number is; z is at most 1,000,000 and never falls as E grows; m is from 30,000 to 150,000 and never rises as C grows; T before any limit never falls as C grows; z and T depend on E only where it is positive.
+-- Laws of z, m and T over any group: `largest` and `smallest` are what they are named for, and no other number is; z is at most 1,000,000 and never falls as E grows; m is from 30,000 to 150,000 and never rises as C grows; T never falls as C grows; z and T depend on E only where it is positive.
 -- Assumes nothing.
 use Prim.Native.Nat.{ℕ, zero, suc, _+_, _-_, _*_, _/_, _≤_, _<_, min, zero-le}
 use mathlib.Core.Path.{_≡_, refl, sym, ap, subst, _∙_}
@@ -12,7 +12,7 @@ use lib.IntN.{ℤ, pos, negsuc}
 use lib.Signed.{_≤ℤ_}
 use Rattle.basics.specs.Pick.{pick}
 use Rattle.basics.proofs.Tests.{by, tests}
-use Rattle.valuation.specs.Factor.{IsLargest, IsSmallest, largest, smallest, groupK, groupTwiceA, positive, zReaches, credibility, rReaches, margin, unlimited, factorOf, factorsOf, factorIn}
+use Rattle.valuation.specs.Factor.{IsLargest, IsSmallest, largest, smallest, groupK, groupTwiceA, positive, zReaches, credibility, rReaches, margin, factorOf, factorsOf, factorIn}
 
 -- no test comes out both ways
 pub clash : {A : Type 0} {t : Bool} → t ≡ true → t ≡ false → A
@@ -182,9 +182,9 @@ margin-falls g (suc b) c l =
 pub div-rises : (d : ℕ) {a b : ℕ} → 1 ≤ d → a ≤ b → a / d ≤ b / d
 div-rises d {a} {b} h l = le-div-iff-mul-le h .1 (le-trans (div-mul-le-self a d) l)
 
-pub unlimited-rises : (g b c : ℕ) (e : ℤ) → b ≤ c → unlimited g b e ≤ unlimited g c e
-unfolding unlimited
-unlimited-rises g b c e l =
+pub factor-rises : (g b c : ℕ) (e : ℤ) → b ≤ c → factorOf g b e ≤ factorOf g c e
+unfolding factorOf
+factor-rises g b c e l =
     by (eqb (positive e) 0)
     (λ t. pick t 1000000 (quotient b + (1000000 - credibility g e)) ≤ pick t 1000000 (quotient c + (1000000 - credibility g e)))
     (λ h. le-refl _)
@@ -198,6 +198,6 @@ unlimited-rises g b c e l =
 
 -- the answer depends on the positive part alone of E
 pub of-positive : (g c : ℕ) (e : ℤ) → factorIn g c (pos (positive e)) ≡ factorIn g c e
-unfolding factorIn factorsOf factorOf unlimited credibility zReaches positive
+unfolding factorIn factorsOf factorOf credibility zReaches positive
 of-positive g c (pos e) = refl
 of-positive g c (negsuc e) = refl

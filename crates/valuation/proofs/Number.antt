@@ -15,24 +15,21 @@ use lib.Ieee.Exact.{HasValue}
 use lib.Ieee.Order.{round-mono}
 use lib.Ieee.Back.{round-whole}
 use Rattle.basics.specs.Pick.{pick}
-use Rattle.basics.specs.Checks.{check}
-use Rattle.basics.proofs.Checks.{check-passed, then-passed}
 use Rattle.basics.proofs.Tests.{tests, by, and-left, and-right}
-use Rattle.rates.specs.Rates.{rateCheck}
-use Rattle.valuation.specs.Rate.{durationSound}
 use Rattle.valuation.specs.Reserve.{float, start, month, running, reserveOf, discountSound, reserveCheck, reserveIn}
+use Rattle.valuation.proofs.ReserveLaws.{reserve-passed}
 use Rattle.valuation.specs.declared.Reserve.the-variants.{Factor, Refused}
 use Rattle.valuation.specs.declared.reserve_factor.Running.{Running}
 
 -- not negative, and no NaN
-abbrev NotNegative : Float → Type 0
+abbrev pub NotNegative : Float → Type 0
 NotNegative nan = ⊥
 NotNegative (inf true) = ⊥
 NotNegative (inf false) = Unit
 NotNegative (fin true m e) = ⊥
 NotNegative (fin false m e) = Unit
 
-number : (x : Float) → NotNegative x → isNan x ≡ false
+pub number : (x : Float) → NotNegative x → isNan x ≡ false
 unfolding isNan
 number nan h = absurd h
 number (inf s) h = refl
@@ -99,7 +96,7 @@ mul-share (fin false m e) (fin true n d) p q = absurd q
 mul-share (fin false m e) (fin false n d) p q =
     round-share (m * up e * (n * up d)) (down e * down d) (mul-pos (down-pos e) (down-pos d)) (mul-le-mul p q)
 
-add-not-negative : (x y : Float) → NotNegative x → NotNegative y → NotNegative (add binary64 x y)
+pub add-not-negative : (x y : Float) → NotNegative x → NotNegative y → NotNegative (add binary64 x y)
 unfolding add sum
 add-not-negative nan y p q = p
 add-not-negative (inf true) y p q = absurd p
@@ -169,19 +166,13 @@ module _ (rates : List ℕ) (cell first : ℕ) (t : List ℕ) (v : Float) (passe
   running-sound zero = start-sound
   running-sound (suc n) = month-sound _ _ v (discount-share v passed) (running-sound n)
 
+  pub factor-not-negative : (months : ℕ) → NotNegative (reserveOf rates cell first t months v)
+  unfolding reserveOf
+  factor-not-negative months = running-sound months .sum-not-negative
+
   -- no factor is a NaN
   pub factor-number : (months : ℕ) → isNan (reserveOf rates cell first t months v) ≡ false
-  unfolding reserveOf
-  factor-number months = number _ (running-sound months .sum-not-negative)
-
--- what passing the checks says of the last of them
-discount-passed :
-    (rates : List ℕ) (cell first months : ℕ) (v : Float) → reserveCheck rates cell first months v ≡ 0 → discountSound v ≡ true
-unfolding reserveCheck
-discount-passed rates cell first months v e =
-    let p = then-passed (rateCheck rates cell) _ e in
-    let q = then-passed (check (durationSound first && leb months 480) 12) _ (p .1) in
-    check-passed (discountSound v) 13 (omega arith) (q .1)
+  factor-number months = number _ (factor-not-negative months)
 
 -- so no answer of the call carries a NaN
 pub answer-number :
@@ -192,7 +183,7 @@ answer-number rates cell first t months v x =
     by (eqb k 0) (λ s. pick s (Factor y) (Refused k) ≡ Factor x → isNan x ≡ false)
     (λ q e.
     let same : y ≡ x = cc in
-    rw same at (factor-number rates cell first t v (discount-passed rates cell first months v (eqb-true k 0 q)) months))
+    rw same at (factor-number rates cell first t v (reserve-passed rates cell first months v (eqb-true k 0 q) .3) months))
     (λ q e. let z : _≡_ {A = ℕ} 0 1 = cc in absurd (omega arith))
   where
     k : ℕ

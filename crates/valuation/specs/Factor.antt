@@ -1,8 +1,8 @@
 -- Document 01, Valuation: z, m and T of a group, from C (recoveries plus deaths) and E (both expected sums together, unit 1/30,000,000 of a count).
 use Prim.Native.Nat.{ℕ, zero, suc, _+_, _-_, _*_, _/_, _≤_, min}
 use mathlib.Core.Path.{_≡_}
-use mathlib.Core.Bool.{Bool, true, false, _&&_}
-use lib.Dec.{leb, ltb, eqb}
+use mathlib.Core.Bool.{Bool, true, _&&_}
+use lib.Dec.{leb, eqb}
 use lib.IntN.{ℤ, pos, negsuc}
 use Rattle.basics.specs.Pick.{pick}
 use Rattle.basics.specs.Checks.{refuse-valuation}
@@ -59,18 +59,11 @@ rReaches g c r = leb (530450000000 * groupTwiceA g) (r * r * c)
 unfoldable pub margin : ℕ → ℕ → ℕ
 margin g c = pick (eqb c 0) 150000 (min 150000 (30000 + smallest (rReaches g c) 2060000))
 
--- T before any limit: floor(z × 30 × C × (1,000,000 − m) / E) + 1,000,000 − z; 1,000,000 if E ≤ 0
-unfoldable pub unlimited : ℕ → ℕ → ℤ → ℕ
-unlimited g c e =
+-- T, which has no ceiling (document 02, request No. 9): floor(z × 30 × C × (1,000,000 − m) / E) + 1,000,000 − z; 1,000,000 if E ≤ 0
+unfoldable pub factorOf : ℕ → ℕ → ℤ → ℕ
+factorOf g c e =
     pick (eqb (positive e) 0) 1000000
     (credibility g e * 30 * c * (1000000 - margin g c) / positive e + (1000000 - credibility g e))
-
--- In groups 3 to 5 T is at most 1,300,000; group 3 with C ≥ 5,000 is not limited
-unfoldable pub isLimited : ℕ → ℕ → Bool
-isLimited g c = leb 3 g && pick (eqb g 3) (ltb c 5000) true
-
-unfoldable pub factorOf : ℕ → ℕ → ℤ → ℕ
-factorOf g c e = pick (isLimited g c) (min 1300000 (unlimited g c e)) (unlimited g c e)
 
 -- 12, valuation: group outside 1–5, C over 500,000
 unfoldable pub factorSound : ℕ → ℕ → Bool

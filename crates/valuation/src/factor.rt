@@ -1,10 +1,10 @@
 // z, m and T of a group, in millionths.
 ghost use mathlib.Core.Path.{_≡_};
-ghost use Prim.Native.Nat.{_+_, _-_, _*_, _/_, _≤_, _<_, min};
+ghost use Prim.Native.Nat.{_+_, _-_, _*_, _/_, _≤_, _<_};
 ghost use lib.Dec.{eqb};
 ghost use lib.IntN.{pos};
 ghost use Rattle.basics.specs.Pick.{pick};
-ghost use Rattle.valuation.specs.Factor.{groupK, groupTwiceA, positive, credibility, margin, isLimited, factorsOf, factorIn};
+ghost use Rattle.valuation.specs.Factor.{groupK, groupTwiceA, positive, credibility, margin, factorsOf, factorIn};
 use crate::GroupFactor;
 use crate::MaybeFactor;
 use basics::refusal;
@@ -89,8 +89,8 @@ fn margin_of(group: u8, terminations: u64) -> u64
     150000
 }
 
-// T before any limit.
-fn unlimited_of(z: u64, m: u64, terminations: u64, expected: u64) -> u64
+// T of a group above 1.
+fn t_of(z: u64, m: u64, terminations: u64, expected: u64) -> u64
     requires { ⌜ (z ≤ 1000000) × (30000 ≤ m) × (m ≤ 150000) × (terminations ≤ 500000) ⌝ }
     ensures { λ r. ⌜ r ≡ pick (eqb expected 0) 1000000 (z * 30 * terminations * (1000000 - m) / expected + (1000000 - z)) ⌝ }
 {
@@ -100,32 +100,6 @@ fn unlimited_of(z: u64, m: u64, terminations: u64, expected: u64) -> u64
     z * 30 * terminations * (1000000 - m) / expected + (1000000 - z)
 }
 
-// Whether T is at most 1,300,000: in groups 3 to 5, but not in group 3 with C ≥ 5,000.
-fn is_limited(group: u8, terminations: u64) -> bool
-    ensures { λ r. ⌜ r ≡ isLimited group terminations ⌝ }
-{
-    if group < 3 {
-        return false;
-    }
-    if group == 3 {
-        return terminations < 5000;
-    }
-    true
-}
-
-// T under its limit.
-fn limited(group: u8, terminations: u64, t: u64) -> u64
-    ensures { λ r. ⌜ r ≡ pick (isLimited group terminations) (min 1300000 t) t ⌝ }
-{
-    if t <= 1300000 {
-        return t;
-    }
-    if is_limited(group, terminations) {
-        return 1300000;
-    }
-    t
-}
-
 // z, m and T of a group above 1.
 fn factors_of(group: u8, terminations: u64, expected: u64) -> GroupFactor
     requires { ⌜ (2 ≤ group) × (terminations ≤ 500000) ⌝ }
@@ -133,11 +107,10 @@ fn factors_of(group: u8, terminations: u64, expected: u64) -> GroupFactor
 {
     let z = credibility_of(group, expected);
     let m = margin_of(group, terminations);
-    let t = unlimited_of(z, m, terminations, expected);
     GroupFactor {
         z: z as u32,
         m: m as u32,
-        t: limited(group, terminations, t),
+        t: t_of(z, m, terminations, expected),
     }
 }
 

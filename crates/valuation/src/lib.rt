@@ -1,7 +1,8 @@
-// Valuation (document 01): z, m and T of a group, the valuation rate and the reserve factor.
+// Valuation (document 01): z, m and T of a group, the valuation rate and the reserve factor; the limit on reserves (document 02).
 pub mod factor;
 pub mod rate;
 pub mod reserve_factor;
+pub mod reserve_limit;
 pub mod study_factor;
 
 // z, m and T of a group, in millionths.
@@ -27,4 +28,12 @@ pub enum MaybeRate {
 pub enum Reserve {
     Factor(f64),
     Refused(u8),
+}
+
+// The set of T that the limit on reserves allows, with both total reserves; a refusal has its number and zeros.
+pub struct LimitAnswer {
+    pub refused: u8,
+    pub t: [u64; 5],
+    pub given: f64,
+    pub replaced: f64,
 }

@@ -3,7 +3,7 @@ ghost use mathlib.Core.Path.{_≡_};
 ghost use Prim.Native.Nat.{_+_, _≤_};
 ghost use denote.Ref.{now};
 ghost use Rattle.rates.specs.Rates.{rateCheck};
-ghost use Rattle.valuation.specs.Reserve.{month, monthDuration, monthRate, running, reserveIn};
+ghost use Rattle.valuation.specs.Reserve.{month, monthDuration, monthRate, running, reserveCheck, reserveIn};
 use crate::Reserve;
 use crate::rate::rate_of;
 use basics::Duration;
@@ -55,7 +55,14 @@ fn month_rate(rates: &[u32], cell: u32, first: Duration, t: [u64; 5], n: u32) ->
 }
 
 // The running values after all months.
-fn after(rates: &[u32], cell: u32, first: Duration, t: [u64; 5], months: u32, v: f64) -> Running
+pub(crate) fn after(
+    rates: &[u32],
+    cell: u32,
+    first: Duration,
+    t: [u64; 5],
+    months: u32,
+    v: f64,
+) -> Running
     requires { ⌜ (rateCheck (now rates) cell ≡ 0) × (first .0 ≤ 480) × (months ≤ 480) ⌝ }
     ensures { λ r. ⌜ r ≡ running (now (rates .entry)) cell (first .0) t v months ⌝ }
 {
@@ -72,6 +79,32 @@ fn after(rates: &[u32], cell: u32, first: Duration, t: [u64; 5], months: u32, v:
     run
 }
 
+// The number of the first of the checks 6 to 8, 12 and 13 that fails, or 0.
+pub(crate) fn reserve_check(rates: &[u32], cell: u32, first: Duration, months: u32, v: f64) -> u8
+    ensures { λ r. ⌜ r ≡ reserveCheck (now (rates .entry)) cell (first .0) months v ⌝ }
+{
+    let failed = check(rates, cell);
+    if failed != 0 {
+        return failed;
+    }
+    let duration = first.0;
+    if duration < 2 {
+        return refusal::VALUATION;
+    }
+    if duration > 480 {
+        return refusal::VALUATION;
+    }
+    if months > 480 {
+        return refusal::VALUATION;
+    }
+    if v > 0.0 {
+        if v <= 1.0 {
+            return 0;
+        }
+    }
+    refusal::DISCOUNT
+}
+
 // The reserve factor of a cell from a first duration on, over the given months, or the number refused.
 pub fn reserve_factor(
     rates: &[u32],
@@ -83,25 +116,10 @@ pub fn reserve_factor(
 ) -> Reserve
     ensures { λ r. ⌜ r ≡ reserveIn (now (rates .entry)) cell (first .0) t months v ⌝ }
 {
-    let failed = check(rates, cell);
+    let failed = reserve_check(rates, cell, first, months, v);
     if failed != 0 {
         return Reserve::Refused(failed);
     }
-    let duration = first.0;
-    if duration < 2 {
-        return Reserve::Refused(refusal::VALUATION);
-    }
-    if duration > 480 {
-        return Reserve::Refused(refusal::VALUATION);
-    }
-    if months > 480 {
-        return Reserve::Refused(refusal::VALUATION);
-    }
-    if v > 0.0 {
-        if v <= 1.0 {
-            let run = after(rates, cell, first, t, months, v);
-            return Reserve::Factor(run.sum);
-        }
-    }
-    Reserve::Refused(refusal::DISCOUNT)
+    let run = after(rates, cell, first, t, months, v);
+    Reserve::Factor(run.sum)
 }

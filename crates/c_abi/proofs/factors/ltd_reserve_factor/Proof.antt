@@ -14,16 +14,6 @@ use borrow.Author.Needs.{needs}
 use Rattle.c_abi.proofs.factors.ltd_reserve_factor.Statement.{statement}
 use Rattle.c_abi.proofs.factors.ltd_reserve_factor.Tie as tie
 
--- five numbers are the list that holds them
-five : (t : List ℕ) → length t ≡ 5 → getD t 0 0 ∷ getD t 1 0 ∷ getD t 2 0 ∷ getD t 3 0 ∷ getD t 4 0 ∷ [] ≡ t
-five [] e = absurd (omega arith)
-five (a ∷ []) e = absurd (omega arith)
-five (a ∷ b ∷ []) e = absurd (omega arith)
-five (a ∷ b ∷ c ∷ []) e = absurd (omega arith)
-five (a ∷ b ∷ c ∷ d ∷ []) e = absurd (omega arith)
-five (a ∷ b ∷ c ∷ d ∷ f ∷ []) e = refl
-five (a ∷ b ∷ c ∷ d ∷ f ∷ g ∷ t) e = absurd (omega arith)
-
 module _ (t : List ℕ) (old : List Float) (a : Reserve) where
   not-five : (length t ≡ 5 → ⊥) → (255 ≡ reserveAnswered t old a) × (old ≡ reserveAfter t old a)
   unfolding reserveAnswered reserveAfter
@@ -44,32 +34,40 @@ returns c = not-five _ _ _ (c .if1 .taken)
 returns-2 : tie.Need-returns-2
 returns-2 c = no-room _ _ _ (c .before .if1 .left) (c .if2 .taken)
 
+-- what the call answers, of the T that were lent
+answer :
+    (c : tie.After-reserve-factor)
+    → c .reserve-factor .result
+    ≡ reserveIn (c .before .before .before .before .before .before .before .args .rates .now)
+    (c .before .before .before .before .before .before .before .args .cell) (c .before .before .before .before .before .before .before .args .first)
+    (c .before .before .before .before .before .before .before .args .t .now)
+    (c .before .before .before .before .before .before .before .args .months) (c .before .before .before .before .before .before .before .args .v)
+answer c =
+    let s = c .before .before .before .before .before .before .before .args in
+    c .reserve-factor .ensures
+    ∙ ap (λ (t : List ℕ). reserveIn (s .rates .now) (s .cell) (s .first) t (s .months) (s .v)) (c .before .five .ensures)
+
 returns-3 : tie.Need-returns-3
 unfolding reserveNumber reserveStored
 returns-3 c =
     let f = c .before in
     let r = f .before .before in
-    let e = r .before .before .before .before .before .before in
+    let e = r .before .before in
     let s = e .before .before .before .before .before .args in
-    let h : length (s .t .now) ≡ 5 = e .before .if1 .left in
-    let q = sym (f .factor .given .1) ∙ r .reserve-factor .ensures
-    ∙ ap (λ (t : List ℕ). reserveIn (s .rates .now) (s .cell) (s .first) t (s .months) (s .v)) (five (s .t .now) h) in
-    lent (s .t .now) (s .out .now) _ _ _ h (e .if2 .left) (ap reserveNumber q) (ap (reserveStored (s .out .now)) q)
+    let q = sym (f .factor .given .1) ∙ answer r in
+    lent (s .t .now) (s .out .now) _ _ _ (e .before .if1 .left) (e .if2 .left) (ap reserveNumber q) (ap (reserveStored (s .out .now)) q)
 
 returns-4 : tie.Need-returns-4
 unfolding reserveNumber reserveStored
 returns-4 c =
     let f = c .before in
     let r = f .before .before in
-    let e = r .before .before .before .before .before .before in
+    let e = r .before .before in
     let s = e .before .before .before .before .before .args in
-    let h : length (s .t .now) ≡ 5 = e .before .if1 .left in
-    let q = sym (f .number .given .1) ∙ r .reserve-factor .ensures
-    ∙ ap (λ (t : List ℕ). reserveIn (s .rates .now) (s .cell) (s .first) t (s .months) (s .v)) (five (s .t .now) h) in
-    lent (s .t .now) (s .out .now) _ _ _ h (e .if2 .left) (ap reserveNumber q) (ap (reserveStored (s .out .now)) q)
+    let q = sym (f .number .given .1) ∙ answer r in
+    lent (s .t .now) (s .out .now) _ _ _ (e .before .if1 .left) (e .if2 .left) (ap reserveNumber q) (ap (reserveStored (s .out .now)) q)
 
 pub ltd-reserve-factor-spec : {M : Type 1} → statement M
 ltd-reserve-factor-spec =
     tie.close
-    (tie.spec returns returns-2 (λ c. search needs) (λ c. search needs) (λ c. search needs) (λ c. search needs) (λ c. search needs)
-    (λ c κs. search needs) (λ c. search needs) (λ c. search needs) (λ c. search needs) (λ c. search needs) returns-3 returns-4)
+    (tie.spec returns returns-2 (λ c κs. search needs) (λ c κs. search needs) (λ c. search needs) (λ c. search needs) (λ c. search needs) (λ c. search needs) returns-3 returns-4)

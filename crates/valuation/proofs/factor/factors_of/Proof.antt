@@ -4,39 +4,38 @@ use native.Mathlib.Omega.{arith}
 use borrow.Author.Needs.{needs}
 use borrow.Author.Tests.{ne-eqb}
 use lib.IntN.{pos}
-use Rattle.valuation.specs.Factor.{positive, unlimited, factorOf, factorsOf}
+use Rattle.valuation.specs.Factor.{positive, factorOf, factorsOf}
 use Rattle.valuation.proofs.Laws.{credibility-high, margin-bounds}
 use Rattle.valuation.proofs.factor.factors_of.Statement.{statement}
 use Rattle.valuation.proofs.factor.factors_of.Tie as tie
 
-unlimited-of-requires : tie.Need-unlimited-of-requires
-unlimited-of-requires c κs =
+t-of-requires : tie.Need-t-of-requires
+t-of-requires c κs =
     let a = c .before .before .args in
     omega (arith, credibility-high (a .group) (pos (a .expected)), margin-bounds (a .group) (a .terminations))
 
-cast-t7 : tie.Need-cast-t7
-cast-t7 c =
-    let a = c .before .before .before .args in
+cast-t6 : tie.Need-cast-t6
+cast-t6 c =
+    let a = c .before .before .args in
     omega (arith, credibility-high (a .group) (pos (a .expected)))
 
-cast-t8 : tie.Need-cast-t8
-cast-t8 c =
-    let a = c .before .before .before .args in
+cast-t7 : tie.Need-cast-t7
+cast-t7 c =
+    let a = c .before .before .args in
     omega (arith, margin-bounds (a .group) (a .terminations))
 
 returns : tie.Need-returns
-unfolding factorsOf factorOf unlimited positive
+unfolding factorsOf factorOf positive
 returns c =
-    let d = c .before .before .before in
+    let d = c .before .before in
     simp (
       ne-eqb (d .before .args .group) 1 (omega arith),
-      c .limited .ensures,
-      c .before .unlimited-of .ensures,
-      c .before .before .margin-of .ensures,
+      c .t-of .ensures,
+      c .before .margin-of .ensures,
       d .credibility-of .ensures,
     )
 
 pub factors-of-spec : {M : Type 1} → statement M
 factors-of-spec =
     tie.close
-    (tie.spec (λ c κs. search needs) (λ c κs. search needs) unlimited-of-requires cast-t7 cast-t8 (λ c κs. search needs) returns)
+    (tie.spec (λ c κs. search needs) (λ c κs. search needs) cast-t6 cast-t7 t-of-requires returns)

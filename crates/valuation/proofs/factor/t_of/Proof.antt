@@ -1,12 +1,12 @@
--- `valuation::factor::unlimited_of` meets its contract. Its largest product is 1,000,000 × 30 × 500,000 × 970,000, which 64 bits hold.
+-- `valuation::factor::t_of` meets its contract. Its largest product is 1,000,000 × 30 × 500,000 × 970,000, which 64 bits hold.
 -- Assumes nothing.
 use Prim.Native.Nat.{ℕ, _-_, _*_, _≤_}
 use native.Mathlib.Omega.{arith}
 use native.Mathlib.Nat.{mul-le-mul, div-le-self}
 use borrow.Author.Needs.{needs}
 use borrow.Author.Tests.{eq-eqb, ne-eqb}
-use Rattle.valuation.proofs.factor.unlimited_of.Statement.{statement}
-use Rattle.valuation.proofs.factor.unlimited_of.Tie as tie
+use Rattle.valuation.proofs.factor.t_of.Statement.{statement}
+use Rattle.valuation.proofs.factor.t_of.Tie as tie
 
 counts-fit : (z c : ℕ) → z ≤ 1000000 → c ≤ 500000 → z * 30 * c ≤ 15000000000000
 counts-fit z c h i =
@@ -40,7 +40,7 @@ add-result c =
 returns-2 : tie.Need-returns-2
 returns-2 c = simp (ne-eqb _ _ (c .if1 .left))
 
-pub unlimited-of-spec : {M : Type 1} → statement M
-unlimited-of-spec =
+pub t-of-spec : {M : Type 1} → statement M
+t-of-spec =
     tie.close
     (tie.spec returns (λ c. search needs) mul-result-2 (λ c. search needs) mul-result-3 (λ c. search needs) (λ c. search needs) add-result returns-2)
