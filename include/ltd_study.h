@@ -62,6 +62,10 @@ uint8_t ltd_prepared_file_study(const uint8_t *file, size_t file_len, const uint
 /* z, m and T of a group into out (3 numbers), T without any ceiling. Answers 0, or 12. 255 if out is shorter than 3. */
 uint8_t ltd_factor(uint8_t group, uint32_t terminations, int64_t expected, uint64_t *out, size_t out_len);
 
+/* The smallest count of terminations, 0 to 500,000, with which T of a group is at least wanted, expected as it is. Answers the count, or
+   2^32 + the number refused: 12 (group), 19 (no such count). Nothing is lent, so 255 is never answered. */
+uint64_t ltd_wanted_count(uint8_t group, int64_t expected, uint64_t wanted);
+
 /* The valuation rate, or 2^32 + the number refused (6, 7, 8, 12). */
 uint64_t ltd_valuation_rate(const uint32_t *rates, size_t rates_len, uint32_t cell, uint64_t t, uint32_t duration);
 

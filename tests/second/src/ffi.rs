@@ -31,6 +31,8 @@ mod c {
 
         pub fn ltd_factor(group: u8, terminations: u32, expected: i64, out: *mut u64, out_len: usize) -> u8;
 
+        pub fn ltd_wanted_count(group: u8, expected: i64, wanted: u64) -> u64;
+
         pub fn ltd_valuation_rate(rates: *const u32, rates_len: usize, cell: u32, t: u64, duration: u32) -> u64;
 
         pub fn ltd_reserve_factor(
@@ -127,6 +129,11 @@ pub fn prepared_file_study(file: &[u8], table: &[u32], out: &mut [i64]) -> u8 {
 /// z, m and T into `out` (3 numbers).
 pub fn factor(group: u8, terminations: u32, expected: i64, out: &mut [u64]) -> u8 {
     unsafe { c::ltd_factor(group, terminations, expected, head_mut(out), out.len()) }
+}
+
+/// The smallest count whose T is at least the wanted one, or 2^32 + the number refused.
+pub fn wanted_count(group: u8, expected: i64, wanted: u64) -> u64 {
+    unsafe { c::ltd_wanted_count(group, expected, wanted) }
 }
 
 /// The valuation rate, or 2^32 + the number refused.

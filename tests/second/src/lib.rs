@@ -39,6 +39,7 @@ pub enum Refusal {
     Valuation = 12,
     Discount = 13,
     OpenClaims = 17,
+    NoSuchCount = 19,
 }
 
 impl Refusal {

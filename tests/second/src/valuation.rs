@@ -1,4 +1,4 @@
-//! Valuation: z, m, T, the valuation rate, the reserve factor and the limit on reserves.
+//! Valuation: z, m, T, the count that reaches a wanted T, the valuation rate, the reserve factor and the limit on reserves.
 
 use crate::claim::Duration;
 use crate::rates::{CellRates, RateTable, Rates, FIRST_RATED, LAST_RATED, MILLION};
@@ -71,6 +71,17 @@ pub fn factor(group: u8, terminations: u32, expected: i64) -> Result<Factor, Ref
         _ => z * 30 * c * (ONE - m) / e + ONE - z,
     };
     Ok(Factor { z: z as u64, m: m as u64, t: t as u64 })
+}
+
+/// The smallest C from 0 to 500,000 whose T is at least the wanted one, E unchanged; T never falls with C. Checks 12 and 19.
+pub fn wanted_count(group: u8, expected: i64, wanted: u64) -> Result<u32, Refusal> {
+    factor(group, 0, expected)?;
+    let reaches = |c: u128| factor(group, c as u32, expected).is_ok_and(|factor| factor.t >= wanted);
+    let most = MOST_CLAIMS as u128;
+    match smallest(0, most + 1, reaches) {
+        c if c <= most => Ok(c as u32),
+        _ => Err(Refusal::NoSuchCount),
+    }
 }
 
 fn check_duration(duration: u32) -> Result<Duration, Refusal> {

@@ -7,7 +7,7 @@ use second::generate::claim_file;
 use second::rates::{RateTable, CELL_LENGTH};
 use second::report::{decode_rates, report};
 use second::run::run_file;
-use second::valuation::{factor, reserve_limit, Factor, Limited};
+use second::valuation::{factor, reserve_limit, wanted_count, Factor, Limited};
 use second::Refusal;
 
 // No. 2: the walk over a claim's months ends with the exposure.
@@ -129,4 +129,38 @@ fn open_claims_are_refused_in_list_order() {
         [0, 1, 2, 24, 480, 481].map(|first| refused(&rates, &[0, first, 0], 0.5)),
         [Some(12), Some(12), Some(17), Some(17), None, Some(12)]
     );
+}
+
+// No. 11: how many closings reach a wanted factor.
+
+#[test]
+fn the_count_reaches_the_wanted_factor_and_every_smaller_one_falls_short() {
+    let t = |group: u8, c: u32, e: i64| factor(group, c, e).unwrap().t;
+    for (group, e) in [(2, 24_750_000_000), (3, 99_000_000_000), (4, 1), (5, 7_000_000)] {
+        for wanted in [0, 1, 500_000, 1_000_000, 1_000_001, 1_300_001, 5_000_000] {
+            let count = (0..=500_000).find(|&c| t(group, c, e) >= wanted);
+            assert_eq!(wanted_count(group, e, wanted).ok(), count, "{group} {e} {wanted}");
+        }
+        let highest = t(group, 500_000, e);
+        assert!(wanted_count(group, e, highest).is_ok());
+        assert_eq!([highest + 1, u64::MAX].map(|wanted| wanted_count(group, e, wanted)), [Err(Refusal::NoSuchCount); 2]);
+    }
+    // T is one whatever the count in group 1, and where nothing is expected.
+    for (group, e) in [(1, 24_750_000_000), (2, 0), (5, i64::MIN)] {
+        assert_eq!([0, 1_000_000].map(|wanted| wanted_count(group, e, wanted)), [Ok(0); 2]);
+        assert_eq!(wanted_count(group, e, 1_000_001), Err(Refusal::NoSuchCount));
+    }
+    assert_eq!([0, 6, 255].map(|group| wanted_count(group, 1, u64::MAX)), [Err(Refusal::Valuation); 3]);
+}
+
+/// T never falls with the count.
+#[test]
+fn t_rises_with_the_count() {
+    for group in 1..=5 {
+        for e in [1, 1_000, 30_000_000, 24_750_000_000, i64::MAX] {
+            let all: Vec<u64> = (0..=500_000).step_by(13).chain(0..2_000).map(|c| factor(group, c, e).unwrap().t).collect();
+            let (coarse, fine) = all.split_at(all.len() - 2_000);
+            assert!(coarse.is_sorted() && fine.is_sorted());
+        }
+    }
 }

@@ -18,6 +18,7 @@ mod prepared;
 mod reserve_limit;
 mod short_lists;
 mod valuation;
+mod wanted_count;
 mod windows;
 
 use second::rng::Rng;
@@ -51,6 +52,7 @@ const SUBJECTS: &[&[Test]] = &[
     prepared::TESTS,
     windows::TESTS,
     valuation::TESTS,
+    wanted_count::TESTS,
     reserve_limit::TESTS,
     blocks::TESTS,
     short_lists::TESTS,

@@ -9,7 +9,7 @@ use second::months::listing;
 use second::rates::{prepare, RateTable};
 use second::run::{run_file, run_prepared_file, FileRun};
 use second::study::{Study, STUDY_LENGTH};
-use second::valuation::{factor, reserve_factor, reserve_limit, valuation_rate, Factor, Limited};
+use second::valuation::{factor, reserve_factor, reserve_limit, valuation_rate, wanted_count, Factor, Limited};
 use second::Refusal;
 use std::fmt::{Debug, Write as _};
 
@@ -26,6 +26,7 @@ pub const BLOCK: u8 = 11;
 pub const VALUATION: u8 = 12;
 pub const DISCOUNT: u8 = 13;
 pub const OPEN_CLAIMS: u8 = 17;
+pub const NO_SUCH_COUNT: u8 = 19;
 /// A lent list has not the length or form asked for.
 pub const WRONG_FORM: u8 = 255;
 
@@ -321,6 +322,13 @@ pub fn first_factor(group: u8, c: u32, e: i64) -> Factor {
     let mut out = [0; 3];
     ffi::factor(group, c, e, &mut out);
     Factor { z: out[0], m: out[1], t: out[2] }
+}
+
+pub fn compare_wanted_count(group: u8, expected: i64, wanted: u64) -> Result<u64, String> {
+    let answer = ffi::wanted_count(group, expected, wanted);
+    let answer_2 = wide_answer(wanted_count(group, expected, wanted).map(u64::from));
+    same(answer, answer_2, || format!("wanted T {wanted}, group {group}, E {expected}"))?;
+    Ok(answer)
 }
 
 pub fn compare_valuation_rate(rates: &[u32], cell: u32, t: u64, duration: u32) -> Result<u64, String> {

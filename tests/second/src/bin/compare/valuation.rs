@@ -23,7 +23,7 @@ pub const TESTS: &[Test] = &[
     test("reserve factor: cells not in the table", 51, reserve_missing_cells),
 ];
 
-fn terminations(rng: &mut Rng) -> u32 {
+pub fn terminations(rng: &mut Rng) -> u32 {
     match rng.below(4) {
         0 => rng.pick(&[0, 1, 2, 73, 74, 294, 295, 4_999, 5_000, 499_999, 500_000]),
         1 => rng.below(1_000) as u32,
