@@ -1,6 +1,6 @@
 -- Files of the older layout, a cell of one byte, read and run as they did: byte 23 of each of their records is zero.
 -- Assumes nothing.
-use Prim.Native.Nat.{ℕ, zero, suc, _+_, _*_, _/_, _%_, _<_}
+use Prim.Native.Nat.{ℕ, zero, suc, _+_, _*_, _/_, _%_, _≤_, _<_}
 use mathlib.Core.Path.{_≡_, refl, sym, ap, _∙_}
 use mathlib.Core.Bool.{true, false, _&&_, and-eq-true-iff}
 use mathlib.Core.List.{List}
@@ -8,7 +8,7 @@ use mathlib.Core.Logic.{⊎-elim}
 use native.Mathlib.Omega.{arith}
 use native.Mathlib.Nat.{le-of-suc-le-suc, not-suc-le-zero, eq-or-lt-of-le}
 use lib.ListN.{length, take, drop}
-use lib.Dec.{leb, eqb}
+use lib.Dec.{eqb}
 use borrow.Author.Tests.{eqb-true, eqb-false, le-leb}
 use Rattle.basics.specs.Pick.{pick}
 use Rattle.basics.proofs.Tests.{tests, by, and-left, and-right}
@@ -165,9 +165,9 @@ unfolding olderRun fileRunWith fed started
 same-run add bytes h =
     ap (λ (x : FileRun). ended (partFed x (length bytes % 512))) (same-blocks add (length bytes / 512) started bytes (λ u. h))
 
-same-table-check : (rates : List ℕ) (cell : ℕ) → leb (length rates / 958) 64 ≡ true → olderRateCheck rates cell ≡ rateCheck rates cell
+same-table-check : (rates : List ℕ) (cell : ℕ) → length rates / 958 ≤ 64 → olderRateCheck rates cell ≡ rateCheck rates cell
 unfolding olderRateCheck rateCheck lengthSound cells
-same-table-check rates cell h = rw (h, le-leb (length rates / 958) 1024 (omega tests))
+same-table-check rates cell h = rw (le-leb (length rates / 958) 64 h, le-leb (length rates / 958) 1024 (omega arith))
 
 pub older-files : OlderFiles
 older-files =
@@ -175,5 +175,5 @@ older-files =
       sound = still-sound;
       claims = λ due bytes p h k l. same-read bytes k (all-nine due bytes h k l);
       runs = same-run;
-      tables = same-table-check;
+      tables = λ rates cell h. same-table-check rates cell (omega tests);
     }
