@@ -1,7 +1,7 @@
 -- The laws of the rate table, for the crates above: they cite these and never unfold the table's definitions.
 -- Assumes nothing.
 use Prim.Native.Nat.{ℕ, zero, suc, _+_, _*_, _≤_, _<_, max}
-use mathlib.Core.Path.{_≡_, subst}
+use mathlib.Core.Path.{_≡_, refl, subst}
 use mathlib.Core.Bool.{true, false}
 use mathlib.Core.List.{List}
 use mathlib.Core.Logic.{⊎-elim}
@@ -16,7 +16,7 @@ use Rattle.basics.specs.Checks.{check}
 use Rattle.basics.specs.Series.{sumTo}
 use Rattle.basics.proofs.Checks.{check-passed, then-passed}
 use Rattle.basics.proofs.Tests.{tests, by, and-left, and-right}
-use Rattle.rates.specs.Rates.{place, recoveryRate, deathRate, tableSound, ratesSoundTo, ratesSound, cells, rateCheck, groupOf, groupLast}
+use Rattle.rates.specs.Rates.{place, recoveryRate, deathRate, tableSound, ratesSoundTo, ratesSound, cells, rateCheck, groupOf, lastOf, groupLast}
 use Rattle.rates.specs.Prepared.{ratesOver}
 
 -- recovery and death rate of a cell together
@@ -72,7 +72,7 @@ module _ (rates : List ℕ) (cell d : ℕ) (passed : rateCheck rates cell ≡ 0)
 
 -- the five groups of a duration with their last durations, each with the durations it has
 module _ (d : ℕ) (P : ℕ → ℕ → Type 0) where
-  by-group :
+  pub by-group :
       (d ≤ 3 → P 1 3) → (3 < d → d ≤ 24 → P 2 24) → (24 < d → d ≤ 60 → P 3 60) → (60 < d → d ≤ 120 → P 4 120)
       → (120 < d → P 5 4294967295) → P (groupOf d) (groupLast d)
   unfolding groupOf groupLast
@@ -84,6 +84,11 @@ module _ (d : ℕ) (P : ℕ → ℕ → Type 0) where
     where
       at : {g l : ℕ} (cut k : ℕ) → (leb d cut ≡ true → P k cut) → (leb d cut ≡ false → P g l) → P (pick (leb d cut) k g) (pick (leb d cut) cut l)
       at {g} {l} cut k = by (leb d cut) (λ t. P (pick t k g) (pick t cut l))
+
+-- the last duration of a duration's group is that group's last
+pub last-of-group : (d : ℕ) → lastOf (groupOf d) ≡ groupLast d
+unfolding lastOf
+last-of-group d = by-group d (λ g l. lastOf g ≡ l) (λ _. refl) (λ _ _. refl) (λ _ _. refl) (λ _ _. refl) (λ _. refl)
 
 -- what holds of each of the five groups holds of a duration's
 pub each-group : (P : ℕ → Type 0) → P 1 → P 2 → P 3 → P 4 → P 5 → (d : ℕ) → P (groupOf d)

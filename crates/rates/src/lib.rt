@@ -1,9 +1,10 @@
 // The lent rate table: its checks, the rates of a cell at a duration, and the group of a duration.
 ghost use mathlib.Core.Path.{_≡_};
-ghost use Prim.Native.Nat.{_+_, _*_};
+ghost use Prim.Native.Nat.{_+_, _*_, _≤_};
 ghost use lib.ListN.{getD};
 ghost use denote.Ref.{now};
-ghost use Rattle.rates.specs.Rates.{place, lengthSound, rateCheck, ratesSound, recoveryRate, deathRate, groupOf, groupLast};
+ghost use Rattle.rates.specs.Rates.{place, lengthSound, rateCheck, ratesSound, recoveryRate, deathRate, groupOf, lastOf, groupLast};
+ghost use Rattle.rates.specs.Private.{oneAbove};
 
 pub mod prepared;
 
@@ -20,6 +21,13 @@ pub enum Kind {
 pub struct RateSums {
     pub recoveries: i64,
     pub deaths: i64,
+}
+
+// The places of some durations among a cell's 479 numbers of one kind, from the first to the last, and how many durations are past the last place.
+struct Places {
+    first: usize,
+    last: usize,
+    later: u16,
 }
 
 // The place of a duration among a cell's 479 rates of one kind.
@@ -107,42 +115,41 @@ pub fn check(rates: &[u32], cell: u32) -> u8
     refusal::RATE
 }
 
-// The last duration of a duration's group; a group without a last has 2^32 - 1.
-pub fn group_last(duration: Duration) -> Duration
-    ensures { λ r. ⌜ r .0 ≡ groupLast (duration .0) ⌝ }
+// 1 where a duration in months is above a bound, else 0.
+fn above(months: u32, bound: u32) -> u8
+    ensures { λ r. ⌜ r ≡ oneAbove bound months ⌝ }
+    ensures { λ r. ⌜ r ≤ 1 ⌝ }
 {
-    let months = duration.0;
-    if months < 4 {
-        return Duration(3);
+    if months > bound {
+        return 1;
     }
-    if months < 25 {
-        return Duration(24);
-    }
-    if months < 61 {
-        return Duration(60);
-    }
-    if months < 121 {
-        return Duration(120);
-    }
-    Duration(4294967295)
+    0
 }
 
-// The group of a duration, 1 to 5.
+// The group of a duration, 1 to 5: counted, not branched to.
 pub fn group(duration: Duration) -> u8
     ensures { λ r. ⌜ r ≡ groupOf (duration .0) ⌝ }
 {
     let months = duration.0;
-    if months <= 3 {
-        return 1;
+    1 + above(months, 3) + above(months, 24) + above(months, 60) + above(months, 120)
+}
+
+// The last duration of a group; one without a last has 2^32 - 1.
+pub fn last_of(group: u8) -> Duration
+    ensures { λ r. ⌜ r .0 ≡ lastOf group ⌝ }
+{
+    match group {
+        1 => Duration(3),
+        2 => Duration(24),
+        3 => Duration(60),
+        4 => Duration(120),
+        _ => Duration(4294967295),
     }
-    if months <= 24 {
-        return 2;
-    }
-    if months <= 60 {
-        return 3;
-    }
-    if months <= 120 {
-        return 4;
-    }
-    5
+}
+
+// The last duration of a duration's group; a group without a last has 2^32 - 1.
+pub fn group_last(duration: Duration) -> Duration
+    ensures { λ r. ⌜ r .0 ≡ groupLast (duration .0) ⌝ }
+{
+    last_of(group(duration))
 }

@@ -1,12 +1,14 @@
 // Preparing a table in place, and the rates of a table of either kind.
 ghost use mathlib.Core.Path.{_≡_};
 ghost use Prim.Native.Nat.{ℕ, _+_, _*_, _≤_, _<_};
-ghost use lib.IntN.{pos, natAbs};
+ghost use lib.IntN.{pos, natAbs, _+ℤ_, _-ℤ_, _*ℤ_};
 ghost use lib.ListN.{length, getD};
 ghost use denote.Ref.{now};
 ghost use Rattle.rates.specs.Rates.{place};
 ghost use Rattle.rates.specs.Prepared.{runningFrom, preparedCell, marked, prepareCheck, prepareAfter, preparedCheck, sumBefore, preparedRate, checkOf, recoveryOf, deathOf, ratesOver};
+ghost use Rattle.rates.specs.Private.{PlacesOf, placesSum};
 use crate::Kind;
+use crate::Places;
 use crate::RateSums;
 use crate::check;
 use crate::is_table;
@@ -122,26 +124,120 @@ fn sum_before(table: &[u32], at: usize, place: usize) -> u32
     number_at(table, at + place - 1)
 }
 
-// The sum of the rates at some durations, of running sums that start at a number: past 480 the last difference again with each.
-fn prepared_sum(table: &[u32], at: usize, from: Duration, months: u16) -> i64
-    requires { ⌜ at ≤ 4294967295 * 958 + 479 ⌝ }
-    ensures { λ r. ⌜ r ≡ ratesOver (preparedRate (now (table .entry)) at) (from .0) months ⌝ }
-    ensures { λ r. ⌜ natAbs r ≤ 4294967295 * months ⌝ }
+// The places of some durations from one on.
+fn places_of(from: Duration, months: u16) -> Places
+    requires { ⌜ 0 < months ⌝ }
+    ensures { λ r. ⌜ PlacesOf (from .0) months r ⌝ }
 {
-    if months == 0 {
-        return 0;
-    }
     let first = place_of(from);
-    let mut last = first + months as usize - 1;
-    if last > 478 {
-        last = 478;
+    let end = first + months as usize;
+    if end < 479 {
+        return Places {
+            first,
+            last: end - 1,
+            later: 0,
+        };
     }
-    let within = number_at(table, at + last) as i64 - sum_before(table, at, first) as i64;
-    let later = months as usize - (last - first + 1);
+    Places {
+        first,
+        last: 478,
+        later: (end - 479) as u16,
+    }
+}
+
+// The difference of two numbers of a table.
+fn difference(number: u32, before: u32) -> i64
+    ensures { λ r. ⌜ r ≡ pos number -ℤ pos before ⌝ }
+    ensures { λ r. ⌜ natAbs r ≤ 4294967295 ⌝ }
+{
+    number as i64 - before as i64
+}
+
+// A sum and a rate again with each later duration.
+fn with_later(sum: i64, later: u16, rate: i64) -> i64
+    requires { ⌜ natAbs sum ≤ 4294967295 ⌝ }
+    requires { ⌜ natAbs rate ≤ 4294967295 ⌝ }
+    ensures { λ r. ⌜ r ≡ sum +ℤ pos later *ℤ rate ⌝ }
+    ensures { λ r. ⌜ natAbs r ≤ 4294967295 * (1 + later) ⌝ }
+{
+    sum + later as i64 * rate
+}
+
+// The sum of the rates at some places of running sums that start at a number: past 480 the last difference again with each duration.
+fn prepared_sum(table: &[u32], at: usize, places: Places) -> i64
+    requires { ⌜ at ≤ 4294967295 * 958 + 479 ⌝ }
+    requires { ⌜ places .first ≤ places .last ⌝ }
+    requires { ⌜ places .last ≤ 478 ⌝ }
+    ensures { λ r. ⌜ r ≡ placesSum (now (table .entry)) at places ⌝ }
+    ensures { λ r. ⌜ natAbs r ≤ 4294967295 * (1 + places .later) ⌝ }
+{
+    let within = difference(
+        number_at(table, at + places.last),
+        sum_before(table, at, places.first),
+    );
+    if places.later == 0 {
+        return within;
+    }
+    with_later(
+        within,
+        places.later,
+        difference(number_at(table, at + 478), number_at(table, at + 477)),
+    )
+}
+
+// The running sum before a place of the sums that start at a number, where they are all in the table; 0 before the first.
+fn stored_before(table: &[u32], at: usize, place: usize) -> u32
+    requires { ⌜ at + place ≤ length (now table) ⌝ }
+    ensures { λ r. ⌜ pos r ≡ sumBefore (now (table .entry)) at place ⌝ }
+{
+    if place > 0 {
+        return table[at + place - 1];
+    }
+    0
+}
+
+// The same sum where the running sums are all in the table: no number is looked for.
+fn stored_sum(table: &[u32], at: usize, places: Places) -> i64
+    requires { ⌜ at + 479 ≤ length (now table) ⌝ }
+    requires { ⌜ places .first ≤ places .last ⌝ }
+    requires { ⌜ places .last ≤ 478 ⌝ }
+    ensures { λ r. ⌜ r ≡ placesSum (now (table .entry)) at places ⌝ }
+    ensures { λ r. ⌜ natAbs r ≤ 4294967295 * (1 + places .later) ⌝ }
+{
+    let last = at + places.last;
+    let within = difference(table[last], stored_before(table, at, places.first));
+    let later = places.later;
     if later == 0 {
         return within;
     }
-    within + later as i64 * (number_at(table, at + 478) as i64 - number_at(table, at + 477) as i64)
+    with_later(within, later, difference(table[at + 478], table[at + 477]))
+}
+
+// The sums of the rates of a cell whose running sums start at a number. Whether they are all in the table is looked at once.
+fn prepared_sums(table: &[u32], at: usize, from: Duration, months: u16) -> RateSums
+    requires { ⌜ at ≤ 4294967295 * 958 ⌝ }
+    ensures { λ r. ⌜ r .recoveries ≡ ratesOver (preparedRate (now (table .entry)) at) (from .0) months ⌝ }
+    ensures { λ r. ⌜ r .deaths ≡ ratesOver (preparedRate (now (table .entry)) (at + 479)) (from .0) months ⌝ }
+    ensures { λ r. ⌜ natAbs (r .recoveries) ≤ 4294967295 * months ⌝ }
+    ensures { λ r. ⌜ natAbs (r .deaths) ≤ 4294967295 * months ⌝ }
+{
+    if months == 0 {
+        return RateSums {
+            recoveries: 0,
+            deaths: 0,
+        };
+    }
+    let places = places_of(from, months);
+    if at + 958 > table.len() {
+        return RateSums {
+            recoveries: prepared_sum(table, at, places),
+            deaths: prepared_sum(table, at + 479, places),
+        };
+    }
+    RateSums {
+        recoveries: stored_sum(table, at, places),
+        deaths: stored_sum(table, at + 479, places),
+    }
 }
 
 // The sum of the rates at some durations, of rates that start `from` places into a cell.
@@ -178,9 +274,6 @@ pub fn rate_sums(kind: Kind, table: &[u32], cell: u32, from: Duration, months: u
             recoveries: plain_sum(table, cell, 0, from, months),
             deaths: plain_sum(table, cell, 479, from, months),
         },
-        Kind::Prepared => RateSums {
-            recoveries: prepared_sum(table, at, from, months),
-            deaths: prepared_sum(table, at + 479, from, months),
-        },
+        Kind::Prepared => prepared_sums(table, at, from, months),
     }
 }

@@ -17,13 +17,9 @@ returns c =
 
 returns-2 : tie.Need-returns-2
 unfolding recoveryOf deathOf ratesOver
-returns-2 c =
-    let a = c .before .prepared-sum in
-    let b = c .prepared-sum2 in
-    rw (c .before .before .enum-told2 .given .1, toZ-ofZ (record { sfits = a .ok }), toZ-ofZ (record { sfits = b .ok }))
-    (a .ensures .0, (b .ensures .0, (a .ensures .1, b .ensures .1)))
+returns-2 c = rw (c .before .enum-told2 .given .1) (c .prepared-sums .ensures)
 
 pub rate-sums-spec : {M : Type 1} → statement M
 rate-sums-spec =
     tie.close
-    (tie.spec (λ c. search needs) (λ c. search needs) (λ c κs. search needs) (λ c κs. search needs) (λ c. search needs) (λ c κs. search needs) (λ c. search needs) (λ c κs. search needs) returns returns-2)
+    (tie.spec (λ c. search needs) (λ c. search needs) (λ c κs. search needs) (λ c κs. search needs) (λ c. search needs) (λ c κs. search needs) returns returns-2)

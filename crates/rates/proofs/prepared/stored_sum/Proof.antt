@@ -1,0 +1,44 @@
+-- `rates::prepared::stored_sum` meets its contract. Assumes nothing.
+use mathlib.Core.Path.{refl, _∙_}
+use native.Mathlib.Omega.{arith}
+use mir.Facts.{toZ-ofZ}
+use borrow.Author.Needs.{needs}
+use Rattle.rates.proofs.Running.{none-later, some-later}
+use Rattle.rates.proofs.prepared.stored_sum.Statement.{statement}
+use Rattle.rates.proofs.prepared.stored_sum.Tie as tie
+
+returns : tie.Need-returns
+returns c =
+    let within = c .before in
+    let args = within .before .before .before .before .before .args in
+    rw (toZ-ofZ (record { sfits = within .difference .ok })) (
+      none-later (args .table .now) (args .at) (args .places) _ _ _ refl (omega arith) (within .before .stored-before .ensures) _
+          (within .difference .ensures .0) (omega arith),
+      omega (arith, within .difference .ensures .1),
+    )
+
+with-later-requires : tie.Need-with-later-requires
+with-later-requires c κs =
+    let within = c .before .before .before .before in
+    rw (toZ-ofZ (record { sfits = within .difference .ok }), toZ-ofZ (record { sfits = c .difference2 .ok }))
+    (within .difference .ensures .1, c .difference2 .ensures .1)
+
+returns-2 : tie.Need-returns-2
+returns-2 c =
+    let rate = c .before in
+    let within = rate .before .before .before .before in
+    let args = within .before .before .before .before .before .args in
+    rw (toZ-ofZ (record { sfits = c .with-later .ok })) (
+      c .with-later .ensures .0
+          ∙ some-later (args .table .now) (args .at) (args .places) _ _ _ refl (omega arith)
+          (within .before .stored-before .ensures) _ _ _ _ _ _ (toZ-ofZ (record { sfits = within .difference .ok }) ∙ within .difference .ensures .0)
+          (toZ-ofZ (record { sfits = rate .difference2 .ok }) ∙ rate .difference2 .ensures .0) refl (omega arith) refl (omega arith),
+      c .with-later .ensures .1,
+    )
+
+pub stored-sum-spec : {M : Type 1} → statement M
+stored-sum-spec =
+    tie.close
+    (tie.spec (λ c. search needs) (λ c. search needs) (λ c. search needs) (λ c κs. search needs) (λ c. search needs) returns
+    (λ c. search needs) (λ c. search needs) (λ c. search needs) (λ c. search needs) (λ c. search needs) (λ c. search needs) (λ c. search needs)
+    with-later-requires returns-2)
