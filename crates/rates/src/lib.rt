@@ -11,6 +11,9 @@ pub mod prepared;
 use basics::Duration;
 use basics::refusal;
 
+// A cell of a rate table. A unit of its own.
+pub struct Cell(pub u32);
+
 // Whether a lent table holds rates or was prepared.
 pub enum Kind {
     Plain,
@@ -45,10 +48,10 @@ pub(crate) fn place_of(duration: Duration) -> usize
 }
 
 // The rate of a cell at a duration, of the kind whose rates start `from` places into the cell; 0 past the table.
-pub(crate) fn rate(rates: &[u32], cell: u32, from: u16, duration: Duration) -> u32
-    ensures { λ r. ⌜ r ≡ getD (now (rates .entry)) (cell * 958 + from + place (duration .0)) 0 ⌝ }
+pub(crate) fn rate(rates: &[u32], cell: Cell, from: u16, duration: Duration) -> u32
+    ensures { λ r. ⌜ r ≡ getD (now (rates .entry)) (cell .0 * 958 + from + place (duration .0)) 0 ⌝ }
 {
-    let at = cell as usize * 958 + from as usize + place_of(duration);
+    let at = cell.0 as usize * 958 + from as usize + place_of(duration);
     if at < rates.len() {
         return rates[at];
     }
@@ -56,22 +59,22 @@ pub(crate) fn rate(rates: &[u32], cell: u32, from: u16, duration: Duration) -> u
 }
 
 // The recovery rate of a cell at a duration, in millionths; 0 past the table.
-pub fn recovery(rates: &[u32], cell: u32, duration: Duration) -> u32
-    ensures { λ r. ⌜ r ≡ recoveryRate (now (rates .entry)) cell (duration .0) ⌝ }
+pub fn recovery(rates: &[u32], cell: Cell, duration: Duration) -> u32
+    ensures { λ r. ⌜ r ≡ recoveryRate (now (rates .entry)) (cell .0) (duration .0) ⌝ }
 {
     rate(rates, cell, 0, duration)
 }
 
 // The death rate of a cell at a duration, in millionths; 0 past the table.
-pub fn death(rates: &[u32], cell: u32, duration: Duration) -> u32
-    ensures { λ r. ⌜ r ≡ deathRate (now (rates .entry)) cell (duration .0) ⌝ }
+pub fn death(rates: &[u32], cell: Cell, duration: Duration) -> u32
+    ensures { λ r. ⌜ r ≡ deathRate (now (rates .entry)) (cell .0) (duration .0) ⌝ }
 {
     rate(rates, cell, 479, duration)
 }
 
 // Whether recovery and death rate of a cell are together at most 1,000,000 at each duration from 2 to 480.
-pub(crate) fn sound(rates: &[u32], cell: u32) -> bool
-    ensures { λ r. ⌜ r ≡ ratesSound (now (rates .entry)) cell ⌝ }
+pub(crate) fn sound(rates: &[u32], cell: Cell) -> bool
+    ensures { λ r. ⌜ r ≡ ratesSound (now (rates .entry)) (cell .0) ⌝ }
 {
     let mut n: u32 = 0;
     while n < 479 {
@@ -100,13 +103,13 @@ pub(crate) fn is_table(numbers: usize) -> bool
 }
 
 // The number of the first of the checks 6 to 8 that fails for a table and a cell, or 0.
-pub fn check(rates: &[u32], cell: u32) -> u8
-    ensures { λ r. ⌜ r ≡ rateCheck (now (rates .entry)) cell ⌝ }
+pub fn check(rates: &[u32], cell: Cell) -> u8
+    ensures { λ r. ⌜ r ≡ rateCheck (now (rates .entry)) (cell .0) ⌝ }
 {
     if !is_table(rates.len()) {
         return refusal::RATE_TABLE;
     }
-    if cell as usize >= rates.len() / 958 {
+    if cell.0 as usize >= rates.len() / 958 {
         return refusal::CELL;
     }
     if sound(rates, cell) {

@@ -7,6 +7,7 @@ ghost use denote.Ref.{now};
 ghost use Rattle.rates.specs.Rates.{place};
 ghost use Rattle.rates.specs.Prepared.{runningFrom, preparedCell, marked, prepareCheck, prepareAfter, preparedCheck, sumBefore, preparedRate, checkOf, recoveryOf, deathOf, ratesOver};
 ghost use Rattle.rates.specs.Private.{PlacesOf, placesSum};
+use crate::Cell;
 use crate::Kind;
 use crate::Places;
 use crate::RateSums;
@@ -36,7 +37,7 @@ fn prepare_cell(cell: &mut [u32])
     requires { ⌜ length (now cell) ≡ 958 ⌝ }
     ensures { λ _. ⌜ now (cell .exit) ≡ preparedCell (now (cell .entry)) ⌝ }
 {
-    if !sound(cell, 0) {
+    if !sound(cell, Cell(0)) {
         cell[0] = 4294967295;
         return;
     }
@@ -87,24 +88,24 @@ fn number_at(table: &[u32], at: usize) -> u32
 }
 
 // The checks 6 to 8 with a prepared table.
-fn check_prepared(table: &[u32], cell: u32) -> u8
-    ensures { λ r. ⌜ r ≡ preparedCheck (now (table .entry)) cell ⌝ }
+fn check_prepared(table: &[u32], cell: Cell) -> u8
+    ensures { λ r. ⌜ r ≡ preparedCheck (now (table .entry)) (cell .0) ⌝ }
 {
     if !is_marked(table, 1) {
         return refusal::RATE_TABLE;
     }
-    if cell as usize >= (table.len() - 1) / 958 {
+    if cell.0 as usize >= (table.len() - 1) / 958 {
         return refusal::CELL;
     }
-    if number_at(table, cell as usize * 958) > 1000000 {
+    if number_at(table, cell.0 as usize * 958) > 1000000 {
         return refusal::RATE;
     }
     0
 }
 
 // The number of the first of the checks 6 to 8 that fails for a table of either kind and a cell, or 0.
-pub fn check_of(kind: Kind, table: &[u32], cell: u32) -> u8
-    ensures { λ r. ⌜ r ≡ checkOf kind (now (table .entry)) cell ⌝ }
+pub fn check_of(kind: Kind, table: &[u32], cell: Cell) -> u8
+    ensures { λ r. ⌜ r ≡ checkOf kind (now (table .entry)) (cell .0) ⌝ }
 {
     match kind {
         Kind::Plain => check(table, cell),
@@ -241,8 +242,8 @@ fn prepared_sums(table: &[u32], at: usize, from: Duration, months: u16) -> RateS
 }
 
 // The sum of the rates at some durations, of rates that start `from` places into a cell.
-fn plain_sum(table: &[u32], cell: u32, from: u16, duration: Duration, months: u16) -> i64
-    ensures { λ r. ⌜ r ≡ ratesOver (λ d. pos (getD (now (table .entry)) (cell * 958 + from + place d) 0)) (duration .0) months ⌝ }
+fn plain_sum(table: &[u32], cell: Cell, from: u16, duration: Duration, months: u16) -> i64
+    ensures { λ r. ⌜ r ≡ ratesOver (λ d. pos (getD (now (table .entry)) (cell .0 * 958 + from + place d) 0)) (duration .0) months ⌝ }
     ensures { λ r. ⌜ natAbs r ≤ 4294967295 * months ⌝ }
 {
     let mut sum: u64 = 0;
@@ -262,13 +263,13 @@ fn plain_sum(table: &[u32], cell: u32, from: u16, duration: Duration, months: u1
 }
 
 // The sums of a cell's rates at some durations from one on.
-pub fn rate_sums(kind: Kind, table: &[u32], cell: u32, from: Duration, months: u16) -> RateSums
-    ensures { λ r. ⌜ r .recoveries ≡ ratesOver (recoveryOf kind (now (table .entry)) cell) (from .0) months ⌝ }
-    ensures { λ r. ⌜ r .deaths ≡ ratesOver (deathOf kind (now (table .entry)) cell) (from .0) months ⌝ }
+pub fn rate_sums(kind: Kind, table: &[u32], cell: Cell, from: Duration, months: u16) -> RateSums
+    ensures { λ r. ⌜ r .recoveries ≡ ratesOver (recoveryOf kind (now (table .entry)) (cell .0)) (from .0) months ⌝ }
+    ensures { λ r. ⌜ r .deaths ≡ ratesOver (deathOf kind (now (table .entry)) (cell .0)) (from .0) months ⌝ }
     ensures { λ r. ⌜ natAbs (r .recoveries) ≤ 4294967295 * months ⌝ }
     ensures { λ r. ⌜ natAbs (r .deaths) ≤ 4294967295 * months ⌝ }
 {
-    let at = cell as usize * 958;
+    let at = cell.0 as usize * 958;
     match kind {
         Kind::Plain => RateSums {
             recoveries: plain_sum(table, cell, 0, from, months),

@@ -18,9 +18,9 @@ returns c = rw (c .before .before .place-of .ensures)
 returns-2 : tie.Need-returns-2
 returns-2 c =
     rw (← c .before .place-of .ensures)
-    (sym (List·getD-eq-default (c .before .before .before .args .rates .now) 0 (c .if1 .left)))
+    (sym (List·getD-eq-default (c .before .before .before .before .args .rates .now) 0 (c .if1 .left)))
 
 pub rate-spec : {M : Type 1} → statement M
 rate-spec =
     tie.close
-    (tie.spec (λ c. search needs) (λ c. search needs) (λ c κs. search needs) add-at-2 (λ c. search needs) (λ c. search needs) returns returns-2)
+    (tie.spec (λ c. search needs) (λ c. search needs) (λ c. search needs) (λ c κs. search needs) add-at-2 (λ c. search needs) (λ c. search needs) returns returns-2)

@@ -15,7 +15,7 @@ use Rattle.rates.proofs.sound.Statement.{statement}
 use Rattle.rates.proofs.sound.Tie as tie
 
 abbrev Inv-loop : tie.InvT-loop
-Inv-loop rates cell n₀ n = (n ≤ 479) × (ratesSoundTo rates cell n ≡ true)
+Inv-loop rates cell n₀ n = (n ≤ 479) × (ratesSoundTo rates (cell .0) n ≡ true)
 
 abbrev μ-loop : tie.MeasureT-loop
 μ-loop rates cell n₀ n = 479 - n
@@ -28,7 +28,7 @@ returns : tie.Need-returns Inv-loop μ-loop
 unfolding ratesSound
 returns c =
     let rates : List ℕ = c .before .before .before .before .before .before .args .rates .now in
-    let cell : ℕ = c .before .before .before .before .before .before .args .cell in
+    let cell : ℕ = c .before .before .before .before .before .before .args .cell .0 in
     let n : ℕ = c .before .before .before .before .loop .n in
     by (ratesSoundTo rates cell 479) (λ t. false ≡ t)
     (λ e. absurd (omega (arith, sound-at rates cell 479 n e (omega arith)))) (λ _. refl)
@@ -37,7 +37,7 @@ loop-again : tie.Need-loop-again Inv-loop μ-loop
 unfolding ratesSoundTo
 loop-again c =
     let rates : List ℕ = c .before .before .before .before .before .before .args .rates .now in
-    let cell : ℕ = c .before .before .before .before .before .before .args .cell in
+    let cell : ℕ = c .before .before .before .before .before .before .args .cell .0 in
     let passed : bothRates rates cell (c .before .before .before .before .loop .n + 2) ≤ 1000000 = omega arith in
     (omega arith, rw (add-one, c .before .before .before .before .loop .inv .1, le-leb _ 1000000 passed))
 

@@ -27,26 +27,26 @@ passed c = tested _ 1 _ _ true (c .before .is-marked .ensures) (omega arith) (no
 
 sub-if2 : tie.Need-sub-if2
 sub-if2 c =
-    let table = c .before .before .before .args .table .now in
-    omega (arith, sound-length (length table - 1) (marked-sound table 1 (passed c)))
+    let table = c .before .before .before .before .args .table .now in
+    omega (arith, sound-length (length table - 1) (marked-sound table 1 (passed (c .before))))
 
 returns-2 : tie.Need-returns-2
 unfolding preparedCheck _then_ cells
 returns-2 c =
-    let table : List ℕ = c .before .before .before .before .args .table .now in
-    let cell : ℕ = c .before .before .before .before .args .cell in
-    simp (passed (c .before), numbers-length, le-ltb cell ((length table - 1) / 958) (omega arith))
+    let table : List ℕ = c .before .before .before .before .before .args .table .now in
+    let cell : ℕ = c .before .before .before .before .before .args .cell .0 in
+    simp (passed (c .before .before), numbers-length, le-ltb cell ((length table - 1) / 958) (omega arith))
 
 -- past the checks 6 and 7, the cell's first number decides
 left-to-number :
     (c : tie.After-number-at)
-    → preparedCheck (c .before .before .before .before .before .args .table .now) (c .before .before .before .before .before .args .cell)
+    → preparedCheck (c .before .before .before .before .before .before .before .args .table .now) (c .before .before .before .before .before .before .before .args .cell .0)
     ≡ pick (leb (c .number-at .result) 1000000) 0 8
 unfolding preparedCheck _then_ cells
 left-to-number c =
-    let table : List ℕ = c .before .before .before .before .before .args .table .now in
-    let cell : ℕ = c .before .before .before .before .before .args .cell in
-    simp (passed (c .before .before), numbers-length, lt-ltb cell ((length table - 1) / 958) (omega arith), c .number-at .ensures)
+    let table : List ℕ = c .before .before .before .before .before .before .before .args .table .now in
+    let cell : ℕ = c .before .before .before .before .before .before .before .args .cell .0 in
+    simp (passed (c .before .before .before .before), numbers-length, lt-ltb cell ((length table - 1) / 958) (omega arith), c .number-at .ensures)
 
 returns-3 : tie.Need-returns-3
 returns-3 c = simp (left-to-number (c .before), lt-leb (c .before .number-at .result) 1000000 (omega arith))
@@ -57,4 +57,4 @@ returns-4 c = simp (left-to-number (c .before), le-leb (c .before .number-at .re
 pub check-prepared-spec : {M : Type 1} → statement M
 check-prepared-spec =
     tie.close
-    (tie.spec (λ c κs. search needs) returns sub-if2 returns-2 (λ c. search needs) (λ c κs. search needs) returns-3 returns-4)
+    (tie.spec (λ c κs. search needs) returns (λ c. search needs) sub-if2 returns-2 (λ c. search needs) (λ c. search needs) (λ c κs. search needs) returns-3 returns-4)

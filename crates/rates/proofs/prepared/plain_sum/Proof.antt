@@ -20,7 +20,7 @@ use Rattle.rates.proofs.prepared.plain_sum.Tie as tie
 abbrev Inv-loop : tie.InvT-loop
 Inv-loop table cell from months sum₀ next₀ done₀ sum next done =
     (done ≤ months) × (min next 480 ≡ min (next₀ + done) 480) × (sum ≤ 4294967295 * done)
-    × (pos sum ≡ sumTo (λ j. pos (getD table (cell * 958 + from + place (next₀ + j)) 0)) done)
+    × (pos sum ≡ sumTo (λ j. pos (getD table (cell .0 * 958 + from + place (next₀ + j)) 0)) done)
 
 abbrev μ-loop : tie.MeasureT-loop
 μ-loop table cell from months sum₀ next₀ done₀ sum next done = months - done

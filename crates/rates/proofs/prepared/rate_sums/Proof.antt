@@ -22,4 +22,4 @@ returns-2 c = rw (c .before .enum-told2 .given .1) (c .prepared-sums .ensures)
 pub rate-sums-spec : {M : Type 1} → statement M
 rate-sums-spec =
     tie.close
-    (tie.spec (λ c. search needs) (λ c. search needs) (λ c κs. search needs) (λ c κs. search needs) (λ c. search needs) (λ c κs. search needs) returns returns-2)
+    (tie.spec (λ c. search needs) (λ c. search needs) (λ c. search needs) (λ c κs. search needs) (λ c κs. search needs) (λ c. search needs) (λ c κs. search needs) returns returns-2)
