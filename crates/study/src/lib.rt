@@ -20,6 +20,7 @@ use claim_months::MaybeSpan;
 use claim_months::MaybeWindow;
 use claim_months::Span;
 use claim_months::Window;
+use rates::Cell;
 use rates::Kind;
 use room::has_room;
 use share::add_closing;
@@ -71,7 +72,7 @@ fn fresh_study(window: Window) -> Study
 fn add_span(
     kind: Kind,
     table: &[u32],
-    cell: u32,
+    cell: Cell,
     span: Span,
     taken: u32,
     room: bool,
@@ -82,8 +83,8 @@ fn add_span(
 ) -> u8
     requires { ⌜ SpanBounds span ⌝ }
     requires { ⌜ lentShape (lentSums (now thirtieths) (now closings) (now recoveries) (now deaths)) ≡ true ⌝ }
-    ensures { λ r. ⌜ r ≡ spanNumber taken room kind (now (table .entry)) cell ⌝ }
-    ensures { λ r. ⌜ lentSums (now (thirtieths .exit)) (now (closings .exit)) (now (recoveries .exit)) (now (deaths .exit)) ≡ spanSums taken room (lentSums (now (thirtieths .entry)) (now (closings .entry)) (now (recoveries .entry)) (now (deaths .entry))) kind (now (table .entry)) cell span ⌝ }
+    ensures { λ r. ⌜ r ≡ spanNumber taken room kind (now (table .entry)) (cell .0) ⌝ }
+    ensures { λ r. ⌜ lentSums (now (thirtieths .exit)) (now (closings .exit)) (now (recoveries .exit)) (now (deaths .exit)) ≡ spanSums taken room (lentSums (now (thirtieths .entry)) (now (closings .entry)) (now (recoveries .entry)) (now (deaths .entry))) kind (now (table .entry)) (cell .0) span ⌝ }
 {
     let number = rates::prepared::check_of(kind, table, cell);
     if number != 0 {
@@ -135,7 +136,7 @@ pub fn add_to(
             add_span(
                 kind,
                 table,
-                cell,
+                Cell(cell),
                 span,
                 taken,
                 room,

@@ -12,6 +12,7 @@ ghost use Rattle.study.specs.Private.{groupMonths, monthSums, spanClosin
 use crate::room::is_within;
 use basics::Duration;
 use claim_months::Span;
+use rates::Cell;
 use rates::Kind;
 use rates::RateSums;
 use rates::prepared::rate_sums;
@@ -20,14 +21,14 @@ use rates::prepared::rate_sums;
 fn times_rates(
     kind: Kind,
     table: &[u32],
-    cell: u32,
+    cell: Cell,
     duration: Duration,
     thirtieths: u32,
 ) -> RateSums
     requires { ⌜ 2 ≤ duration .0 ⌝ }
     requires { ⌜ thirtieths ≤ 30 ⌝ }
-    ensures { λ r. ⌜ r .recoveries ≡ pos thirtieths *ℤ recoveryOf kind (now (table .entry)) cell (duration .0) ⌝ }
-    ensures { λ r. ⌜ r .deaths ≡ pos thirtieths *ℤ deathOf kind (now (table .entry)) cell (duration .0) ⌝ }
+    ensures { λ r. ⌜ r .recoveries ≡ pos thirtieths *ℤ recoveryOf kind (now (table .entry)) (cell .0) (duration .0) ⌝ }
+    ensures { λ r. ⌜ r .deaths ≡ pos thirtieths *ℤ deathOf kind (now (table .entry)) (cell .0) (duration .0) ⌝ }
     ensures { λ r. ⌜ natAbs (r .recoveries) ≤ 128849018850 ⌝ }
     ensures { λ r. ⌜ natAbs (r .deaths) ≤ 128849018850 ⌝ }
 {
@@ -48,7 +49,7 @@ fn times_rates(
 fn band_rates(
     kind: Kind,
     table: &[u32],
-    cell: u32,
+    cell: Cell,
     first: Duration,
     months: u32,
     before: u32,
@@ -60,8 +61,8 @@ fn band_rates(
     requires { ⌜ months ≤ 1800 ⌝ }
     requires { ⌜ before ≤ 30 ⌝ }
     requires { ⌜ short ≤ 30 ⌝ }
-    ensures { λ r. ⌜ r .recoveries ≡ bandSum (recoveryOf kind (now (table .entry)) cell) (first .0) months before short ⌝ }
-    ensures { λ r. ⌜ r .deaths ≡ bandSum (deathOf kind (now (table .entry)) cell) (first .0) months before short ⌝ }
+    ensures { λ r. ⌜ r .recoveries ≡ bandSum (recoveryOf kind (now (table .entry)) (cell .0)) (first .0) months before short ⌝ }
+    ensures { λ r. ⌜ r .deaths ≡ bandSum (deathOf kind (now (table .entry)) (cell .0)) (first .0) months before short ⌝ }
     ensures { λ r. ⌜ natAbs (r .recoveries) ≤ 400000000000 * months ⌝ }
     ensures { λ r. ⌜ natAbs (r .deaths) ≤ 400000000000 * months ⌝ }
 {
@@ -118,7 +119,7 @@ fn raise(sums: &mut [i64], place: usize, amount: i64)
 pub(crate) fn add_months(
     kind: Kind,
     table: &[u32],
-    cell: u32,
+    cell: Cell,
     span: Span,
     thirtieths: &mut [i64],
     recoveries: &mut [i64],
@@ -129,8 +130,8 @@ pub(crate) fn add_months(
     requires { ⌜ length (now recoveries) ≡ 5 ⌝ }
     requires { ⌜ length (now deaths) ≡ 5 ⌝ }
     ensures { λ _. ⌜ now (thirtieths .exit) ≡ signedEach guardedSum (now (thirtieths .entry)) (monthSums (λ d. pos 1) span (span .months)) ⌝ }
-    ensures { λ _. ⌜ now (recoveries .exit) ≡ signedEach guardedSum (now (recoveries .entry)) (monthSums (recoveryOf kind (now (table .entry)) cell) span (span .months)) ⌝ }
-    ensures { λ _. ⌜ now (deaths .exit) ≡ signedEach guardedSum (now (deaths .entry)) (monthSums (deathOf kind (now (table .entry)) cell) span (span .months)) ⌝ }
+    ensures { λ _. ⌜ now (recoveries .exit) ≡ signedEach guardedSum (now (recoveries .entry)) (monthSums (recoveryOf kind (now (table .entry)) (cell .0)) span (span .months)) ⌝ }
+    ensures { λ _. ⌜ now (deaths .exit) ≡ signedEach guardedSum (now (deaths .entry)) (monthSums (deathOf kind (now (table .entry)) (cell .0)) span (span .months)) ⌝ }
 {
     let mut from = 0;
     while from < span.months {

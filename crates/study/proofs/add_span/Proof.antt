@@ -15,7 +15,7 @@ returns : tie.Need-returns
 returns c = rates-refused _ _ _ _ _ _ _ _ (c .before .check-of .ensures) (c .if1 .taken)
 
 -- past the first test the table passes the checks 6 to 8
-passed : (c : tie.Else1) → let a = c .before .before .before .before .args in checkOf (a .kind) (a .table .now) (a .cell) ≡ 0
+passed : (c : tie.Else1) → let a = c .before .before .before .before .args in checkOf (a .kind) (a .table .now) (a .cell .0) ≡ 0
 passed c = sym (c .before .check-of .ensures) ∙ c .if1 .left
 
 returns-2 : tie.Need-returns-2

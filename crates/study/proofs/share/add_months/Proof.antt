@@ -21,8 +21,8 @@ use Rattle.study.proofs.share.add_months.Tie as tie
 
 abbrev Inv-loop : tie.InvT-loop
 Inv-loop kind table cell span thirtieths₀ recoveries₀ deaths₀ from₀ thirtieths recoveries deaths from =
-    (from ≤ span .months) × Before span from × Raised thirtieths₀ thirtieths (λ d. pos 1) span from × Raised recoveries₀ recoveries (recoveryOf kind table cell) span from
-    × Raised deaths₀ deaths (deathOf kind table cell) span from
+    (from ≤ span .months) × Before span from × Raised thirtieths₀ thirtieths (λ d. pos 1) span from × Raised recoveries₀ recoveries (recoveryOf kind table (cell .0)) span from
+    × Raised deaths₀ deaths (deathOf kind table (cell .0)) span from
 
 abbrev μ-loop : tie.MeasureT-loop
 μ-loop kind table cell span thirtieths₀ recoveries₀ deaths₀ from₀ thirtieths recoveries deaths from = span .months - from

@@ -14,22 +14,22 @@ returns c =
     let args = c .before .before .args in
     let none : args .thirtieths ≡ 0 = omega arith in
     rw none (
-      sym (zero-*ℤ (recoveryOf (args .kind) (args .table .now) (args .cell) (args .duration .0))),
-      (sym (zero-*ℤ (deathOf (args .kind) (args .table .now) (args .cell) (args .duration .0))), (omega arith, omega arith)),
+      sym (zero-*ℤ (recoveryOf (args .kind) (args .table .now) (args .cell .0) (args .duration .0))),
+      (sym (zero-*ℤ (deathOf (args .kind) (args .table .now) (args .cell .0) (args .duration .0))), (omega arith, omega arith)),
     )
 
 module _ (c : tie.After-rate-sums) where
   abbrev start : tie.Start
   start = c .before .before .before
 
-  recoveries : Timed (recoveryOf (start .args .kind) (start .args .table .now) (start .args .cell) (start .args .duration .0)) (start .args .thirtieths) (c .rate-sums .result .recoveries)
+  recoveries : Timed (recoveryOf (start .args .kind) (start .args .table .now) (start .args .cell .0) (start .args .duration .0)) (start .args .thirtieths) (c .rate-sums .result .recoveries)
   recoveries =
-      timed (recoveryOf (start .args .kind) (start .args .table .now) (start .args .cell)) (start .args .duration .0) (start .args .thirtieths)
+      timed (recoveryOf (start .args .kind) (start .args .table .now) (start .args .cell .0)) (start .args .duration .0) (start .args .thirtieths)
       (c .rate-sums .result .recoveries) (start .pre .0) (start .pre .1) (c .rate-sums .ensures .0) (c .rate-sums .ensures .1 .1 .0)
 
-  deaths : Timed (deathOf (start .args .kind) (start .args .table .now) (start .args .cell) (start .args .duration .0)) (start .args .thirtieths) (c .rate-sums .result .deaths)
+  deaths : Timed (deathOf (start .args .kind) (start .args .table .now) (start .args .cell .0) (start .args .duration .0)) (start .args .thirtieths) (c .rate-sums .result .deaths)
   deaths =
-      timed (deathOf (start .args .kind) (start .args .table .now) (start .args .cell)) (start .args .duration .0) (start .args .thirtieths)
+      timed (deathOf (start .args .kind) (start .args .table .now) (start .args .cell .0)) (start .args .duration .0) (start .args .thirtieths)
       (c .rate-sums .result .deaths) (start .pre .0) (start .pre .1) (c .rate-sums .ensures .1 .0) (c .rate-sums .ensures .1 .1 .1)
 
 returns-2 : tie.Need-returns-2
