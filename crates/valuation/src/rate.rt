@@ -7,6 +7,7 @@ ghost use Rattle.valuation.specs.Rate.{valuationRate, rateIn};
 use crate::MaybeRate;
 use basics::Duration;
 use basics::refusal;
+use rates::Cell;
 use rates::check;
 use rates::death;
 use rates::recovery;
@@ -30,9 +31,9 @@ fn scaled(t: u64, s: u32) -> u32
 }
 
 // The valuation rate where the checks 6 to 8 have passed.
-pub(crate) fn rate_of(rates: &[u32], cell: u32, t: u64, duration: Duration) -> u32
-    requires { ⌜ rateCheck (now rates) cell ≡ 0 ⌝ }
-    ensures { λ r. ⌜ r ≡ valuationRate (now (rates .entry)) cell t (duration .0) ⌝ }
+pub(crate) fn rate_of(rates: &[u32], cell: Cell, t: u64, duration: Duration) -> u32
+    requires { ⌜ rateCheck (now rates) (cell .0) ≡ 0 ⌝ }
+    ensures { λ r. ⌜ r ≡ valuationRate (now (rates .entry)) (cell .0) t (duration .0) ⌝ }
 {
     scaled(
         t,
@@ -41,8 +42,8 @@ pub(crate) fn rate_of(rates: &[u32], cell: u32, t: u64, duration: Duration) -> u
 }
 
 // The valuation rate of a T, cell and duration, or the number refused.
-pub fn valuation_rate(rates: &[u32], cell: u32, t: u64, duration: Duration) -> MaybeRate
-    ensures { λ r. ⌜ r ≡ rateIn (now (rates .entry)) cell t (duration .0) ⌝ }
+pub fn valuation_rate(rates: &[u32], cell: Cell, t: u64, duration: Duration) -> MaybeRate
+    ensures { λ r. ⌜ r ≡ rateIn (now (rates .entry)) (cell .0) t (duration .0) ⌝ }
 {
     let failed = check(rates, cell);
     if failed != 0 {

@@ -8,6 +8,7 @@ use crate::Reserve;
 use crate::rate::rate_of;
 use basics::Duration;
 use basics::refusal;
+use rates::Cell;
 use rates::check;
 use rates::group;
 
@@ -45,9 +46,9 @@ fn later(first: Duration, n: u32) -> Duration
 }
 
 // The valuation rate of the month after n others, with the T of its duration's group.
-fn month_rate(rates: &[u32], cell: u32, first: Duration, t: [u64; 5], n: u32) -> u32
-    requires { ⌜ (rateCheck (now rates) cell ≡ 0) × (first .0 ≤ 480) × (n ≤ 480) ⌝ }
-    ensures { λ r. ⌜ r ≡ monthRate (now (rates .entry)) cell (first .0) t (n + 1) ⌝ }
+fn month_rate(rates: &[u32], cell: Cell, first: Duration, t: [u64; 5], n: u32) -> u32
+    requires { ⌜ (rateCheck (now rates) (cell .0) ≡ 0) × (first .0 ≤ 480) × (n ≤ 480) ⌝ }
+    ensures { λ r. ⌜ r ≡ monthRate (now (rates .entry)) (cell .0) (first .0) t (n + 1) ⌝ }
 {
     let duration = later(first, n);
     let place = group(duration) as usize - 1;
@@ -57,14 +58,14 @@ fn month_rate(rates: &[u32], cell: u32, first: Duration, t: [u64; 5], n: u32) ->
 // The running values after all months.
 pub(crate) fn after(
     rates: &[u32],
-    cell: u32,
+    cell: Cell,
     first: Duration,
     t: [u64; 5],
     months: u32,
     v: f64,
 ) -> Running
-    requires { ⌜ (rateCheck (now rates) cell ≡ 0) × (first .0 ≤ 480) × (months ≤ 480) ⌝ }
-    ensures { λ r. ⌜ r ≡ running (now (rates .entry)) cell (first .0) t v months ⌝ }
+    requires { ⌜ (rateCheck (now rates) (cell .0) ≡ 0) × (first .0 ≤ 480) × (months ≤ 480) ⌝ }
+    ensures { λ r. ⌜ r ≡ running (now (rates .entry)) (cell .0) (first .0) t v months ⌝ }
 {
     let mut run = Running {
         p: 1.0,
@@ -80,8 +81,8 @@ pub(crate) fn after(
 }
 
 // The number of the first of the checks 6 to 8, 12 and 13 that fails, or 0.
-pub(crate) fn reserve_check(rates: &[u32], cell: u32, first: Duration, months: u32, v: f64) -> u8
-    ensures { λ r. ⌜ r ≡ reserveCheck (now (rates .entry)) cell (first .0) months v ⌝ }
+pub(crate) fn reserve_check(rates: &[u32], cell: Cell, first: Duration, months: u32, v: f64) -> u8
+    ensures { λ r. ⌜ r ≡ reserveCheck (now (rates .entry)) (cell .0) (first .0) months v ⌝ }
 {
     let failed = check(rates, cell);
     if failed != 0 {
@@ -108,13 +109,13 @@ pub(crate) fn reserve_check(rates: &[u32], cell: u32, first: Duration, months: u
 // The reserve factor of a cell from a first duration on, over the given months, or the number refused.
 pub fn reserve_factor(
     rates: &[u32],
-    cell: u32,
+    cell: Cell,
     first: Duration,
     t: [u64; 5],
     months: u32,
     v: f64,
 ) -> Reserve
-    ensures { λ r. ⌜ r ≡ reserveIn (now (rates .entry)) cell (first .0) t months v ⌝ }
+    ensures { λ r. ⌜ r ≡ reserveIn (now (rates .entry)) (cell .0) (first .0) t months v ⌝ }
 {
     let failed = reserve_check(rates, cell, first, months, v);
     if failed != 0 {

@@ -12,6 +12,7 @@ use crate::reserve_factor::after;
 use crate::reserve_factor::reserve_check;
 use basics::Duration;
 use basics::refusal;
+use rates::Cell;
 
 // T where the limit puts it.
 const LIMIT: u64 = 1300000;
@@ -37,8 +38,8 @@ fn replaced_t(t: [u64; 5], count: u64) -> [u64; 5]
 }
 
 // The checks of one open claim: those of the reserve factor, and after them its duration.
-fn claim_check(rates: &[u32], cell: u32, duration: u32, months: u32, v: f64) -> u8
-    ensures { λ r. ⌜ r ≡ (reserveCheck (now (rates .entry)) cell duration months v then check (ltb 24 duration) refuse-open-claims) ⌝ }
+fn claim_check(rates: &[u32], cell: Cell, duration: u32, months: u32, v: f64) -> u8
+    ensures { λ r. ⌜ r ≡ (reserveCheck (now (rates .entry)) (cell .0) duration months v then check (ltb 24 duration) refuse-open-claims) ⌝ }
 {
     let failed = reserve_check(rates, cell, Duration(duration), months, v);
     if duration <= 24 {
@@ -66,7 +67,7 @@ fn with_claim(
     if totals.refused != 0 {
         return totals;
     }
-    let cell = list[3 * place];
+    let cell = Cell(list[3 * place]);
     let duration = list[3 * place + 1];
     let months = list[3 * place + 2];
     let failed = claim_check(rates, cell, duration, months, v);

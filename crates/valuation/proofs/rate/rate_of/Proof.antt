@@ -12,7 +12,7 @@ use Rattle.valuation.proofs.rate.rate_of.Tie as tie
 both : (c : tie.After-death) → c .before .recovery .result + c .death .result ≤ 1000000
 both c =
     let e = c .before .before .before in
-    omega (arith, rates-bound (e .args .rates .now) (e .args .cell) (e .args .duration .0) (e .pre))
+    omega (arith, rates-bound (e .args .rates .now) (e .args .cell .0) (e .args .duration .0) (e .pre))
 
 add-scaled : tie.Need-add-scaled
 add-scaled c = omega (arith, both c)

@@ -11,7 +11,7 @@ use Rattle.valuation.proofs.reserve_factor.after.Statement.{statement}
 use Rattle.valuation.proofs.reserve_factor.after.Tie as tie
 
 abbrev Inv-loop : tie.InvT-loop
-Inv-loop rates cell first t months v run₀ n₀ run n = (n ≤ months) × (run ≡ running rates cell (first .0) t v n)
+Inv-loop rates cell first t months v run₀ n₀ run n = (n ≤ months) × (run ≡ running rates (cell .0) (first .0) t v n)
 
 abbrev μ-loop : tie.MeasureT-loop
 μ-loop rates cell first t months v run₀ n₀ run n = months - n
