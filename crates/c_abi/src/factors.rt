@@ -11,6 +11,7 @@ ghost use Rattle.valuation.specs.ReserveLimit.{limitOf};
 ghost use Rattle.study_list.specs.Lent.{answered, stored};
 ghost use Rattle.c_abi.specs.Abi.{rateNumber, factorNumber, factorStored, reserveAnswered, reserveAfter, limitAnswered, limitSet, limitTotals};
 use basics::Duration;
+use rates::Cell;
 use valuation::MaybeFactor;
 use valuation::MaybeRate;
 use valuation::Reserve;
@@ -20,7 +21,7 @@ use valuation::Reserve;
 pub extern "C" fn ltd_valuation_rate(rates: &[u32], cell: u32, t: u64, duration: u32) -> u64
     ensures { λ r. ⌜ r ≡ rateNumber (rateIn (now (rates .entry)) cell t duration) ⌝ }
 {
-    match valuation::rate::valuation_rate(rates, cell, t, Duration(duration)) {
+    match valuation::rate::valuation_rate(rates, Cell(cell), t, Duration(duration)) {
         MaybeRate::Rate(rate) => rate as u64,
         MaybeRate::Refused(number) => 4294967296 + number as u64,
     }
@@ -75,7 +76,7 @@ pub extern "C" fn ltd_reserve_factor(
         return 255;
     }
     let first = Duration(first);
-    match valuation::reserve_factor::reserve_factor(rates, cell, first, five(t), months, v) {
+    match valuation::reserve_factor::reserve_factor(rates, Cell(cell), first, five(t), months, v) {
         Reserve::Factor(factor) => {
             out[0] = factor;
             0
