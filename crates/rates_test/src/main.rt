@@ -4,6 +4,7 @@ ghost use Prim.Native.Nat.{_<_};
 mod preparing;
 
 use basics::Duration;
+use rates::Cell;
 use test_support::lists::counting;
 use test_support::print::put;
 use test_support::print::put_next;
@@ -13,15 +14,15 @@ fn put_checks(table: &[u32]) {
     put(b"length");
     put_next(table.len() as u64);
     put(b" checks");
-    put_next(rates::check(table, 0) as u64);
-    put_next(rates::check(table, 1) as u64);
-    put_next(rates::check(table, 63) as u64);
-    put_next(rates::check(table, 64) as u64);
-    put_next(rates::check(table, 255) as u64);
-    put_next(rates::check(table, 256) as u64);
-    put_next(rates::check(table, 1023) as u64);
-    put_next(rates::check(table, 1024) as u64);
-    put_next(rates::check(table, 4294967295) as u64);
+    put_next(rates::check(table, Cell(0)) as u64);
+    put_next(rates::check(table, Cell(1)) as u64);
+    put_next(rates::check(table, Cell(63)) as u64);
+    put_next(rates::check(table, Cell(64)) as u64);
+    put_next(rates::check(table, Cell(255)) as u64);
+    put_next(rates::check(table, Cell(256)) as u64);
+    put_next(rates::check(table, Cell(1023)) as u64);
+    put_next(rates::check(table, Cell(1024)) as u64);
+    put_next(rates::check(table, Cell(4294967295)) as u64);
     put(b"\n");
 }
 
@@ -67,8 +68,8 @@ fn put_most(table: &[u32; 981951]) {
 
 // The recovery and the death rate of a cell at a duration.
 fn put_rates(table: &[u32], cell: u32, duration: u32) {
-    put_next(rates::recovery(table, cell, Duration(duration)) as u64);
-    put_next(rates::death(table, cell, Duration(duration)) as u64);
+    put_next(rates::recovery(table, Cell(cell), Duration(duration)) as u64);
+    put_next(rates::death(table, Cell(cell), Duration(duration)) as u64);
 }
 
 fn put_cell(table: &[u32], cell: u32) {

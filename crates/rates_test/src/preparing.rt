@@ -1,5 +1,6 @@
 // Prints what preparing makes of a table of 65 cells, and the checks and sums of a table of either kind.
 use basics::Duration;
+use rates::Cell;
 use rates::Kind;
 use rates::prepared::check_of;
 use rates::prepared::prepare;
@@ -21,20 +22,20 @@ fn check_start(kind: Kind, list: &[u32], count: usize) {
     if count <= list.len() {
         let table = &list[0..count];
         put(b"checks");
-        put_next(check_of(kind, table, 0) as u64);
-        put_next(check_of(kind, table, 1) as u64);
-        put_next(check_of(kind, table, 64) as u64);
-        put_next(check_of(kind, table, 65) as u64);
-        put_next(check_of(kind, table, 1023) as u64);
-        put_next(check_of(kind, table, 1024) as u64);
-        put_next(check_of(kind, table, 4294967295) as u64);
+        put_next(check_of(kind, table, Cell(0)) as u64);
+        put_next(check_of(kind, table, Cell(1)) as u64);
+        put_next(check_of(kind, table, Cell(64)) as u64);
+        put_next(check_of(kind, table, Cell(65)) as u64);
+        put_next(check_of(kind, table, Cell(1023)) as u64);
+        put_next(check_of(kind, table, Cell(1024)) as u64);
+        put_next(check_of(kind, table, Cell(4294967295)) as u64);
         put(b"\n");
     }
 }
 
 // The sums of the recovery and the death rates of a cell over some durations.
 fn put_sum(kind: Kind, table: &[u32], cell: u32, from: u32, months: u16) {
-    let sums = rate_sums(kind, table, cell, Duration(from), months);
+    let sums = rate_sums(kind, table, Cell(cell), Duration(from), months);
     put_next(bits(sums.recoveries));
     put_next(bits(sums.deaths));
 }

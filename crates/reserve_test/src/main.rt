@@ -2,6 +2,7 @@
 // number that varies, or else a running number, and the answer. A factor or a total is written as its bits.
 use basics::Duration;
 use libc::STDOUT_FILENO;
+use rates::Cell;
 use test_support::lists::filled;
 use test_support::print::put;
 use test_support::print::put_next;
@@ -23,7 +24,7 @@ fn factor(case: u64, rates: &[u32], cell: u32, first: u32, t: [u64; 5], months: 
     put_number(case);
     let answer = valuation::reserve_factor::reserve_factor(
         rates,
-        cell,
+        Cell(cell),
         Duration(first),
         t,
         months,
@@ -42,7 +43,7 @@ fn factor(case: u64, rates: &[u32], cell: u32, first: u32, t: [u64; 5], months: 
 // The answer for a cell, T and duration.
 fn rate(case: u64, rates: &[u32], cell: u32, t: u64, duration: u32) {
     put_number(case);
-    let answer = valuation::rate::valuation_rate(rates, cell, t, Duration(duration));
+    let answer = valuation::rate::valuation_rate(rates, Cell(cell), t, Duration(duration));
     match answer {
         MaybeRate::Rate(g) => {
             put(b": rate ");
