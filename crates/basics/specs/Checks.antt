@@ -48,6 +48,10 @@ refuse-discount = 13
 abbrev pub refuse-open-claims : ℕ
 refuse-open-claims = 17
 
+-- document 02, request No. 11: no count reaches the wanted factor
+abbrev pub refuse-no-count : ℕ
+refuse-no-count = 19
+
 -- a check: 0 where the test says that all is sound, else its number
 abbrev pub check : Bool → ℕ → ℕ
 check sound number = pick sound 0 number

@@ -26,3 +26,5 @@ pub const VALUATION: u8 = 12;
 pub const DISCOUNT: u8 = 13;
 
 pub const OPEN_CLAIMS: u8 = 17;
+
+pub const NO_COUNT: u8 = 19;

@@ -11,6 +11,8 @@ use Rattle.valuation.specs.declared.MaybeRate.{MaybeRate}
 use Rattle.valuation.specs.declared.MaybeRate.the-variants as rated
 use Rattle.valuation.specs.declared.MaybeFactor.{MaybeFactor}
 use Rattle.valuation.specs.declared.MaybeFactor.the-variants as factored
+use Rattle.valuation.specs.declared.MaybeCount.{MaybeCount}
+use Rattle.valuation.specs.declared.MaybeCount.the-variants as counted
 use lib.Ieee.{Float}
 use Rattle.valuation.specs.declared.Reserve.{Reserve}
 use Rattle.valuation.specs.declared.Reserve.the-variants as reserved
@@ -29,6 +31,11 @@ dateIn n = record { year = n % 65536; month = n / 65536 % 256; day = n / 1677721
 unfoldable pub rateNumber : MaybeRate → ℕ
 rateNumber (rated.Rate r) = r
 rateNumber (rated.Refused n) = refusedNumber n
+
+-- ltd_wanted_count
+unfoldable pub countNumber : MaybeCount → ℕ
+countNumber (counted.Count c) = c
+countNumber (counted.Refused n) = refusedNumber n
 
 -- ltd_factor: z, m and T, or the list as it was
 unfoldable pub factorNumber : MaybeFactor → ℕ

@@ -8,10 +8,12 @@ ghost use Prim.Native.Nat.{_≤_};
 ghost use lib.ListN.{length};
 ghost use lib.Seq.{sets};
 ghost use Rattle.valuation.specs.ReserveLimit.{limitOf};
+ghost use Rattle.valuation.specs.WantedCount.{wantedIn};
 ghost use Rattle.study_list.specs.Lent.{answered, stored};
-ghost use Rattle.c_abi.specs.Abi.{rateNumber, factorNumber, factorStored, reserveAnswered, reserveAfter, limitAnswered, limitSet, limitTotals};
+ghost use Rattle.c_abi.specs.Abi.{rateNumber, countNumber, factorNumber, factorStored, reserveAnswered, reserveAfter, limitAnswered, limitSet, limitTotals};
 use basics::Duration;
 use rates::Cell;
+use valuation::MaybeCount;
 use valuation::MaybeFactor;
 use valuation::MaybeRate;
 use valuation::Reserve;
@@ -24,6 +26,17 @@ pub extern "C" fn ltd_valuation_rate(rates: &[u32], cell: u32, t: u64, duration:
     match valuation::rate::valuation_rate(rates, Cell(cell), t, Duration(duration)) {
         MaybeRate::Rate(rate) => rate as u64,
         MaybeRate::Refused(number) => 4294967296 + number as u64,
+    }
+}
+
+// The smallest count of closings that reaches a wanted T, or 2^32 + the number refused.
+#[no_mangle]
+pub extern "C" fn ltd_wanted_count(group: u8, expected: i64, wanted: u64) -> u64
+    ensures { λ r. ⌜ r ≡ countNumber (wantedIn group expected wanted) ⌝ }
+{
+    match valuation::wanted_count::wanted_count(group, expected, wanted) {
+        MaybeCount::Count(count) => count as u64,
+        MaybeCount::Refused(number) => 4294967296 + number as u64,
     }
 }
 

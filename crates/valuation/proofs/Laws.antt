@@ -12,6 +12,7 @@ use lib.IntN.{ℤ, pos, negsuc}
 use lib.Signed.{_≤ℤ_}
 use Rattle.basics.specs.Pick.{pick}
 use Rattle.basics.proofs.Tests.{by, tests}
+use Rattle.valuation.specs.declared.GroupFactor.{GroupFactor}
 use Rattle.valuation.specs.Factor.{IsLargest, IsSmallest, largest, smallest, groupK, groupTwiceA, positive, zReaches, credibility, rReaches, margin, factorOf, factorsOf, factorIn}
 
 -- no test comes out both ways
@@ -195,6 +196,21 @@ factor-rises g b c e l =
 
     m : 1000000 - margin g b ≤ 1000000 - margin g c
     m = omega (arith, margin-falls g b c l)
+
+-- T of any group, group 1 included
+pub t-is : (g c : ℕ) (e : ℤ) → factorsOf g c e .t ≡ pick (eqb g 1) 1000000 (factorOf g c e)
+unfolding factorsOf
+t-is g c e =
+    by (eqb g 1)
+    (λ s.
+    pick {A = GroupFactor} s (record { z = 0; m = 0; t = 1000000 }) (record { z = credibility g e; m = margin g c; t = factorOf g c e }) .t
+    ≡ pick s 1000000 (factorOf g c e))
+    (λ h. refl) (λ h. refl)
+
+pub t-rises : (g b c : ℕ) (e : ℤ) → b ≤ c → factorsOf g b e .t ≤ factorsOf g c e .t
+t-rises g b c e l =
+    rw (t-is g b e, t-is g c e)
+    (by (eqb g 1) (λ s. pick s 1000000 (factorOf g b e) ≤ pick s 1000000 (factorOf g c e)) (λ h. le-refl _) (λ h. factor-rises g b c e l))
 
 -- the answer depends on the positive part alone of E
 pub of-positive : (g c : ℕ) (e : ℤ) → factorIn g c (pos (positive e)) ≡ factorIn g c e

@@ -64,7 +64,7 @@ fn root(unit: u64, bound: u64) -> u64
 }
 
 // z of a group above 1.
-fn credibility_of(group: u8, expected: u64) -> u64
+pub(crate) fn credibility_of(group: u8, expected: u64) -> u64
     ensures { λ r. ⌜ r ≡ credibility group (pos expected) ⌝ }
 {
     let unit = 30 * k_of(group);
@@ -75,7 +75,7 @@ fn credibility_of(group: u8, expected: u64) -> u64
 }
 
 // m of a group above 1. The smallest r that reaches is one above the largest that doesn't.
-fn margin_of(group: u8, terminations: u64) -> u64
+pub(crate) fn margin_of(group: u8, terminations: u64) -> u64
     requires { ⌜ terminations ≤ 500000 ⌝ }
     ensures { λ r. ⌜ r ≡ margin group terminations ⌝ }
 {
@@ -90,7 +90,7 @@ fn margin_of(group: u8, terminations: u64) -> u64
 }
 
 // T of a group above 1.
-fn t_of(z: u64, m: u64, terminations: u64, expected: u64) -> u64
+pub(crate) fn t_of(z: u64, m: u64, terminations: u64, expected: u64) -> u64
     requires { ⌜ (z ≤ 1000000) × (30000 ≤ m) × (m ≤ 150000) × (terminations ≤ 500000) ⌝ }
     ensures { λ r. ⌜ r ≡ pick (eqb expected 0) 1000000 (z * 30 * terminations * (1000000 - m) / expected + (1000000 - z)) ⌝ }
 {

@@ -1,9 +1,10 @@
-// Valuation (document 01): z, m and T of a group, the valuation rate and the reserve factor; the limit on reserves (document 02).
+// Valuation (document 01): z, m and T of a group, the valuation rate and the reserve factor; the limit on reserves and the wanted count (document 02).
 pub mod factor;
 pub mod rate;
 pub mod reserve_factor;
 pub mod reserve_limit;
 pub mod study_factor;
+pub mod wanted_count;
 
 // z, m and T of a group, in millionths.
 pub struct GroupFactor {
@@ -27,6 +28,12 @@ pub enum MaybeRate {
 // The reserve factor, or the number refused.
 pub enum Reserve {
     Factor(f64),
+    Refused(u8),
+}
+
+// A count of closings, or the number refused.
+pub enum MaybeCount {
+    Count(u32),
     Refused(u8),
 }
 

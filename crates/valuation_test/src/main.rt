@@ -1,10 +1,14 @@
-// z, m and T at the edges of each rule and check: from C and E for every group, then from a study's sums.
+// z, m and T at the edges of each rule and check: from C and E for every group, then from a study's sums. Then the counts that reach a
+// wanted T.
+use std::num::wrapping_add_u64;
 use study::Sums;
 use test_support::print::put;
 use test_support::print::put_number;
+use valuation::MaybeCount;
 use valuation::MaybeFactor;
 use valuation::factor::factor;
 use valuation::study_factor::study_factor;
+use valuation::wanted_count::wanted_count;
 
 const MOST: i64 = 9223372036854775807;
 
@@ -186,6 +190,74 @@ fn printed() {
     of_sums(5, 5, [0, 0, 0, 0, 0], 0, 0);
 }
 
+// The count that reaches a wanted T.
+fn count(group: u8, expected: i64, wanted: u64) {
+    number(b"wanted ", wanted);
+    number(b" group ", group as u64);
+    match wanted_count(group, expected, wanted) {
+        MaybeCount::Count(c) => number(b": count ", c as u64),
+        MaybeCount::Refused(n) => number(b": refused ", n as u64),
+    }
+    put(b"\n");
+}
+
+fn group_counts(expected: i64, wanted: u64) {
+    count(1, expected, wanted);
+    count(2, expected, wanted);
+    count(3, expected, wanted);
+    count(4, expected, wanted);
+    count(5, expected, wanted);
+}
+
+fn wanted_counts(word: &[u8], expected: i64) {
+    put(word);
+    group_counts(expected, 0);
+    group_counts(expected, 1);
+    group_counts(expected, 500000);
+    group_counts(expected, 900000);
+    group_counts(expected, 999999);
+    group_counts(expected, 1000000);
+    group_counts(expected, 1000001);
+    group_counts(expected, 1300000);
+    group_counts(expected, 5000000);
+    group_counts(expected, 18446744073709551615);
+}
+
+// T about those of 499,999 and of 500,000 closings.
+fn about_most(group: u8, before: u64, most: u64) {
+    count(group, 99000000000, before);
+    count(group, 99000000000, wrapping_add_u64(before, 1));
+    count(group, 99000000000, most);
+    count(group, 99000000000, wrapping_add_u64(most, 1));
+}
+
+fn bad_group(group: u8) {
+    count(group, 99000000000, 0);
+    count(group, -1, 1000000);
+    count(group, 99000000000, 18446744073709551615);
+}
+
+fn wanted() {
+    wanted_counts(b"wanted, E -9223372036854775808\n", LEAST);
+    wanted_counts(b"wanted, E 0\n", 0);
+    wanted_counts(b"wanted, E 1\n", 1);
+    wanted_counts(b"wanted, E 9450000\n", 9450000);
+    wanted_counts(b"wanted, E 24750000000\n", 24750000000);
+    wanted_counts(b"wanted, E 98999999999\n", 98999999999);
+    wanted_counts(b"wanted, E 99000000000\n", 99000000000);
+    wanted_counts(b"wanted, E 27000000000000000\n", 27000000000000000);
+    wanted_counts(b"wanted, E 9223372036854775807\n", MOST);
+    put(b"wanted of 500,000\n");
+    about_most(2, 146527888, 146528181);
+    about_most(3, 146587131, 146587424);
+    about_most(4, 146620312, 146620606);
+    about_most(5, 146657130, 146657575);
+    put(b"wanted, bad group\n");
+    bad_group(0);
+    bad_group(6);
+    bad_group(255);
+}
+
 fn main() {
     factors();
     alone(307, 2);
@@ -198,4 +270,5 @@ fn main() {
     sums(4);
     sums(5);
     printed();
+    wanted();
 }
