@@ -1,5 +1,5 @@
 -- What the private functions of this layer answer: a span's share, band by band.
-use Prim.Native.Nat.{ℕ, _+_, _-_, _*_, _/_, _%_, min}
+use Prim.Native.Nat.{ℕ, _+_, _-_, _*_, _/_, _%_}
 use mathlib.Core.Bool.{Bool, _&&_}
 use mathlib.Core.List.{List}
 use lib.Dec.{ltb, eqb}
@@ -10,16 +10,11 @@ use Rattle.basics.specs.Tables.{table, allWithin, allAtMost}
 use Rattle.claim_months.specs.declared.Span.{Span}
 use Rattle.claim_months.specs.Span.{spanWeighted, spanClosing}
 use Rattle.rates.specs.declared.Kind.{Kind}
-use Rattle.rates.specs.Rates.{groupLast}
 use Rattle.rates.specs.Prepared.{checkOf, recoveryOf, deathOf}
 use Rattle.study.specs.declared.Sums.{Sums}
 use Rattle.study.specs.Sums.{each}
 use Rattle.study.specs.Study.{inGroup, groupWeight}
 use Rattle.study.specs.PreparedAdding.{guardedSum, guardedCount}
-
--- how many months of a span, from month a on, are in its duration's group
-unfoldable pub groupMonths : Span → ℕ → ℕ
-groupMonths sp a = min (sp .months - a) (groupLast (sp .first .0 + a) + 1 - (sp .first .0 + a))
 
 -- per group, the first n months of a span, weighted by their durations
 unfoldable pub monthSums : (ℕ → ℤ) → Span → ℕ → List ℤ

@@ -1,14 +1,15 @@
 // A span's share of a study, added to lent sums: a band of months for each group, and the closing.
 ghost use mathlib.Core.Path.{_≡_};
-ghost use Prim.Native.Nat.{_+_, _*_, _≤_, _<_};
+ghost use Prim.Native.Nat.{_+_, _-_, _*_, _≤_, _<_, min};
 ghost use lib.IntN.{pos, natAbs, _*ℤ_};
 ghost use lib.ListN.{length, getD, set};
 ghost use denote.Ref.{now};
-ghost use Rattle.claim_months.specs.Span.{bandSum, SpanBounds};
+ghost use Rattle.claim_months.specs.Span.{spanU, bandSum, SpanBounds};
+ghost use Rattle.rates.specs.Rates.{groupLast};
 ghost use Rattle.rates.specs.Prepared.{recoveryOf, deathOf};
 ghost use Rattle.study.specs.Sums.{signedEach, countEach};
 ghost use Rattle.study.specs.PreparedAdding.{guardedSum, guardedCount};
-ghost use Rattle.study.specs.Private.{groupMonths, monthSums, spanClosings};
+ghost use Rattle.study.specs.Private.{monthSums, spanClosings};
 use crate::room::is_within;
 use basics::Duration;
 use claim_months::Span;
@@ -87,19 +88,28 @@ fn band_thirtieths(months: u32, before: u32, short: u32) -> i64
     30 * months as i64 - before as i64 - short as i64
 }
 
-// How many months of a span, from one of them on, are in its duration's group.
-fn group_months(span: Span, from: u32) -> u32
-    requires { ⌜ SpanBounds span ⌝ }
-    requires { ⌜ from < span .months ⌝ }
-    ensures { λ r. ⌜ r ≡ groupMonths span from ⌝ }
+// The last duration of a band: that of its first duration's group, or the span's if that is earlier.
+fn band_end(first: u32, last: u32) -> u32
+    ensures { λ r. ⌜ r ≡ min (groupLast first) last ⌝ }
 {
-    let duration = Duration(span.first.0 + from);
-    let left = span.months - from;
-    let later = rates::group_last(duration).0 - duration.0;
-    if left <= later {
-        return left;
+    let end = rates::group_last(Duration(first)).0;
+    if last < end {
+        return last;
     }
-    later + 1
+    end
+}
+
+// What U of a band's last month is short of 30: only the span's last month can lack something.
+fn band_short(span: Span, end: u32, last: u32) -> u32
+    requires { ⌜ SpanBounds span ⌝ }
+    requires { ⌜ span .first .0 ≤ end ⌝ }
+    requires { ⌜ last + 1 ≡ span .first .0 + span .months ⌝ }
+    ensures { λ r. ⌜ r ≡ 30 - spanU span (end - span .first .0) ⌝ }
+{
+    if end == last {
+        return 30 - span.through.0;
+    }
+    0
 }
 
 // Adds an amount to one of some sums, unless it is past the bounds of refusal 9: so 64 bits hold any sum.
@@ -133,18 +143,23 @@ pub(crate) fn add_months(
     ensures { λ _. ⌜ now (recoveries .exit) ≡ signedEach guardedSum (now (recoveries .entry)) (monthSums (recoveryOf kind (now (table .entry)) (cell .0)) span (span .months)) ⌝ }
     ensures { λ _. ⌜ now (deaths .exit) ≡ signedEach guardedSum (now (deaths .entry)) (monthSums (deathOf kind (now (table .entry)) (cell .0)) span (span .months)) ⌝ }
 {
-    let mut from = 0;
-    while from < span.months {
-        let months = group_months(span, from);
-        let first = Duration(span.first.0 + from);
-        let place = (rates::group(first) - 1) as usize;
-        let before = span.lower(from).0;
-        let short = 30 - span.upper(from + (months - 1)).0;
-        let expected = band_rates(kind, table, cell, first, months, before, short);
+    if span.months == 0 {
+        return;
+    }
+    let last = span.first.0 + (span.months - 1);
+    let mut first = span.first.0;
+    let mut before = span.before.0;
+    while first <= last {
+        let end = band_end(first, last);
+        let short = band_short(span, end, last);
+        let months = end - first + 1;
+        let place = (rates::group(Duration(first)) - 1) as usize;
+        let expected = band_rates(kind, table, cell, Duration(first), months, before, short);
         raise(thirtieths, place, band_thirtieths(months, before, short));
         raise(recoveries, place, expected.recoveries);
         raise(deaths, place, expected.deaths);
-        from += months;
+        first = end + 1;
+        before = 0;
     }
 }
 
