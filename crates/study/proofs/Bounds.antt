@@ -64,6 +64,14 @@ pub room-bounds : (n : ℕ) (s : Sums) → roomFor n s ≡ bounded (27000000000 
 unfolding roomFor bounded
 room-bounds n s = refl
 
+-- an answer on bounds that are these
+module _ (t e n : ℕ) (s : Sums) (r : Bool) (q : r ≡ bounded t e n s) where
+  pub within-so : t ≡ 27000000000 → e ≡ 27000000000000000 → n ≡ 500000 → r ≡ within 1 s
+  within-so a b c = q ∙ (λ i. bounded (a i) (b i) (c i) s) ∙ sym (within-bounds s)
+
+  pub room-so : (k : ℕ) → t ≡ 27000000000 - 54000 * k → e ≡ 27000000000000000 - 240000000000000 * k → n ≡ 500000 - k → r ≡ roomFor k s
+  room-so k a b c = q ∙ (λ i. bounded (a i) (b i) (c i) s) ∙ sym (room-bounds k s)
+
 -- an amount added to a sum that a test finds within the bound, and to one past it; nothing added; the same of a count
 module _ (x y : ℤ) (b : ℕ) (r : Bool) (t : r ≡ leb (natAbs x) b) (e : b ≡ 27000000000000000) where
   so : r ≡ leb (natAbs x) 27000000000000000

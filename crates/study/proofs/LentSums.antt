@@ -119,6 +119,7 @@ module _ (kind : Kind) (s : Study) (c : Claim) (table : List ℕ) where
   abbrev one-more : Sums → Study
   one-more x = record { window = s .window; taken = s .taken + 1; sums = x }
 
+  -- told what is so, the checks are those of adding, and so is the rest
   same-check : (room : Bool) → room ≡ within 1 (s .sums) → addCheckTold room kind s c table ≡ addCheckWith kind s c table
   unfolding addCheckTold addCheckWith roomCheck hasRoom
   same-check room e =
@@ -139,6 +140,7 @@ module _ (kind : Kind) (s : Study) (c : Claim) (table : List ℕ) where
       (λ q. ap (λ (x : Sums). answer number (one-more x)) (guarded-plus (s .sums) share (taken-passed (eqb-true number 0 q) .sums)))
       (λ q. refl))
 
+  -- what is left of the room
   share-sized : number ≡ 0 → allAtMost 4294967295 table ≡ true → Sized 231928233930000 1 share
   unfolding shareWith
   share-sized e small =

@@ -23,25 +23,29 @@ returns-4 : tie.Need-returns-4
 returns-4 c = other-length _ _ _ _ _ (λ z. omega (arith, z .deaths))
 
 -- past the tests each list has its length
-long : (c : tie.Else4) → let a = c .before .before .before .before .before .before .args in Shaped (lentSums (a .thirtieths .now) (a .closings .now) (a .recoveries .now) (a .deaths .now))
+abbrev start-of : tie.Else4 → tie.Start
+start-of c = c .before .before .before .before .before .before
+
+long : (c : tie.Else4) → let a = start-of c .args in Shaped (lentSums (a .thirtieths .now) (a .closings .now) (a .recoveries .now) (a .deaths .now))
 long c = record { thirtieths = omega arith; closings = omega arith; recoveries = omega arith; deaths = omega arith }
 
 -- the claim's span, or the number refused
 add-span-requires : tie.Need-add-span-requires
 add-span-requires c κs =
     let m = c .before .before .before .before .before .before in
-    (spanned-bounds _ _ _ _ (sym (m .span2 .given .1) ∙ m .before .before .span .ensures), is-shaped _ (long (c .before .before .before .before .before .before .before .before .before)))
+    (spanned-bounds _ _ _ _ (sym (m .span2 .given .1) ∙ m .before .before .span .ensures), is-shaped _ (long (m .before .before .before)))
 
 returns-5 : tie.Need-returns-5
 returns-5 c =
     let m = c .before .before .before .before .before .before .before .before .before .before .before .before in
     let r = c .before .before .before .before .before .add-span .ensures in
-    with-span _ _ _ _ _ (long (c .before .before .before .before .before .before .before .before .before .before .before .before .before .before .before)) _ (sym (m .span2 .given .1) ∙ m .before .before .span .ensures) _ _ (r .0) (r .1)
+    let e = m .before .before .before in
+    with-span (start-of e .args .room) _ _ _ _ (long e) _ (sym (m .span2 .given .1) ∙ m .before .before .span .ensures) _ _ (r .0) (r .1)
 
 returns-6 : tie.Need-returns-6
 returns-6 c =
     let m = c .before in
-    without _ _ _ _ _ (long (c .before .before .before .before)) _ (sym (m .number .given .1) ∙ m .before .before .span .ensures)
+    without _ _ _ _ _ (long (m .before .before .before)) _ (sym (m .number .given .1) ∙ m .before .before .span .ensures)
 
 pub add-to-spec : {M : Type 1} → statement M
 add-to-spec =
