@@ -12,8 +12,8 @@ use native.Mathlib.Nat.{add-zero, mul-zero}
 use Rattle.calendar.specs.Calendar.{isDate, lastDayNumber}
 use Rattle.calendar.proofs.Laws.{day-last, end-month, months-order}
 use Rattle.basics.proofs.Tests.{tests}
+use Rattle.claim_months.specs.declared.BeginMonth.{BeginMonth}
 use Rattle.claim_months.specs.declared.Claim.{Claim}
-use Rattle.claim_months.specs.declared.ClaimMonth.{ClaimMonth}
 use Rattle.claim_months.specs.declared.MonthDay.{MonthDay}
 use Rattle.claim_months.specs.declared.Span.{Span}
 use Rattle.claim_months.specs.Claim.{firstDuration}
@@ -21,7 +21,7 @@ use Rattle.claim_months.specs.ClaimMonths.{bcdMonth, startIn, monthFirst
 use Rattle.claim_months.specs.Exposure.{exposedFrom, exposedTo, MonthRecord, monthRecord, monthRecords}
 use Rattle.claim_months.specs.Span.{spanOf}
 use Rattle.claim_months.specs.Listing.{row, rows}
-use Rattle.claim_months.specs.Private.{HoldsDay, RowBounds, spanRecord}
+use Rattle.claim_months.specs.Private.{Begins, RowBounds, spanRecord}
 use Rattle.claim_months.proofs.Sound.{Sound}
 use Rattle.claim_months.proofs.Months.{start-low, starts-rise}
 use Rattle.claim_months.proofs.Checked.{later-day}
@@ -111,7 +111,7 @@ module _ (c : Claim) (ok : Sound c) (b e : ℕ) (be : b ≤ e) (h : e ≤ lastDa
         rw (span-run c b e (1 + n) m) (record { runs = refl; each = month-record; bounds = month-bounds; starts = month-starts })
 
   -- of the claim month that holds f
-  pub follows : (x : ClaimMonth) (f : ℕ) (sp : Span) → HoldsDay c f x → f ≡ exposedFrom c b → sp ≡ spanOf (monthRecords c b e)
+  pub follows : (x : BeginMonth) (f : ℕ) (sp : Span) → Begins c b f x → f ≡ exposedFrom c b → sp ≡ spanOf (monthRecords c b e)
       → Follows c b e (x .place) sp (monthRecords c b e)
   follows x f sp hold from span =
       let n = x .place in
@@ -119,8 +119,7 @@ module _ (c : Claim) (ok : Sound c) (b e : ℕ) (be : b ≤ e) (h : e ≤ lastDa
       (by-runs c ok b e h (λ (rs : List MonthRecord). Follows c b e n (spanOf rs) rs) (none-follow n)
       (λ k m r.
       let s : monthFirst c (1 + n) ≤ f = omega (tests, hold .starts, hold .from) in
-      let p : f ≤ monthLast c (1 + n) = omega (tests, hold .ends, hold .to) in
-      let u = months-ordered c ok f f k (1 + n) (omega tests) (omega tests) (omega (tests, r .starts)) p in
+      let u = months-ordered c ok f f k (1 + n) (omega tests) (omega tests) (omega (tests, r .starts)) (hold .to) in
       let v = months-ordered c ok f f (1 + n) k (omega tests) (r .low) s (omega (tests, r .holds-f)) in
       let k1 : k ≡ 1 + n = omega tests in
       rw k1 (some-follow n m (rw k1 at r))))

@@ -7,14 +7,15 @@ use mathlib.Core.Path.{_≡_, sym, ap, ap₂, _∙_}
 use Rattle.basics.specs.Checks.{check}
 use Rattle.basics.proofs.Checks.{check-passed, then-passed}
 use Rattle.basics.proofs.Tests.{tests}
+use Rattle.claim_months.specs.declared.BeginMonth.{BeginMonth}
 use Rattle.claim_months.specs.declared.Claim.{Claim}
 use Rattle.claim_months.specs.declared.ClaimMonth.{ClaimMonth}
 use Rattle.claim_months.specs.declared.Span.{Span}
 use Rattle.claim_months.specs.Claim.{firstDuration, claimCheck}
 use Rattle.claim_months.specs.ClaimMonths.{monthFirst, monthLast}
 use Rattle.claim_months.specs.Windows.{windowSound, windowCheck}
-use Rattle.claim_months.specs.Exposure.{exposedFrom, exposedTo, monthB, monthU, closingCategory, monthRecords}
-use Rattle.claim_months.specs.Private.{HoldsDay}
+use Rattle.claim_months.specs.Exposure.{exposedFrom, exposedTo, monthU, closingCategory, monthRecords}
+use Rattle.claim_months.specs.Private.{HoldsDay, Begins}
 use Rattle.claim_months.specs.Span.{spanOf, exposureCheck}
 use Rattle.claim_months.proofs.Sound.{Sound}
 use Rattle.claim_months.proofs.Months.{next-starts, last-next, months-end}
@@ -29,13 +30,13 @@ checks-passed c b e h =
     (window-bounds b e (check-passed (windowSound b e) 1 (omega tests) (p .0)), p .1)
 
 -- claim months x and y of a sound claim hold the first exposed day f and the last one l
-pub record SpanEnds (c : Claim) (b e f l : ℕ) (x y : ClaimMonth) : Type 0 where
+pub record SpanEnds (c : Claim) (b e f l : ℕ) (x : BeginMonth) (y : ClaimMonth) : Type 0 where
   pub sound : Sound c
   pub window : e ≤ lastDayNumber
   pub from : f ≡ exposedFrom c b
   pub to : l ≡ exposedTo c e
   pub ordered : f ≤ l
-  pub begin : HoldsDay c f x
+  pub begin : Begins c b f x
   pub end : HoldsDay c l y
 
 -- a claim month has 31 days or fewer
@@ -45,7 +46,7 @@ month-days c ok d x h =
     let l = last-next c (ok .bcd-date) (1 + x .place) (omega tests) in
     omega (tests, h .starts, h .ends)
 
-module _ (c : Claim) (b e f l : ℕ) (x y : ClaimMonth) (r : SpanEnds c b e f l x y) where
+module _ (c : Claim) (b e f l : ℕ) (x : BeginMonth) (y : ClaimMonth) (r : SpanEnds c b e f l x y) where
   pub places-ordered : x .place ≤ y .place
   places-ordered =
       let s : monthFirst c (1 + x .place) ≤ f = omega (tests, r .begin .starts, r .begin .from) in
@@ -73,24 +74,24 @@ module _ (c : Claim) (b e f l : ℕ) (x y : ClaimMonth) (r : SpanEnds c b e f l 
         low = omega tests;
         high = omega tests;
         starts = omega (tests, r .begin .starts, r .begin .from, r .from);
-        holds-f = omega (tests, r .begin .ends, r .begin .to, r .from);
+        holds-f = omega (tests, r .begin .to, r .from);
         reaches = rw k (omega (tests, r .end .starts, r .end .from, r .to));
         holds-l = rw k (omega (tests, r .end .ends, r .end .to, r .to));
       }
 
   -- five numbers of the two months: the first duration d, the months m, B, U and the category
-  pub code-span : (d m n u k : ℕ) → d ≡ firstDuration c → m ≡ y .place - x .place + 1 → n ≡ monthB b (x .first .0) (x .last .0)
+  pub code-span : (d m u k : ℕ) → d ≡ firstDuration c → m ≡ y .place - x .place + 1
       → u ≡ monthU c b e (y .first .0) (y .last .0) → k ≡ closingCategory c b e (y .first .0) (y .last .0)
       → _≡_ {A = Span}
       (record {
         first = record { 0 = d + x .place };
         months = m;
-        before = record { 0 = n };
+        before = x .before;
         through = record { 0 = u };
         category = k;
       })
       (spanOf (monthRecords c b e))
-  code-span d m n u k hd hm hn hu hk =
+  code-span d m u k hd hm hu hk =
       let o = places-ordered in
       let a = y .place - x .place in
       let j : 1 + y .place ≡ 1 + x .place + a = omega tests in
@@ -98,14 +99,13 @@ module _ (c : Claim) (b e f l : ℕ) (x y : ClaimMonth) (r : SpanEnds c b e f l 
       let h2 : m ≡ suc a = omega tests in
       let s = r .end .starts ∙ ap (monthFirst c) j in
       let p = r .end .ends ∙ ap (monthLast c) j in
-      let h3 = hn ∙ ap₂ (monthB b) (r .begin .starts) (r .begin .ends) in
       let h4 = hu ∙ ap₂ (monthU c b e) s p in
       let h5 = hk ∙ ap₂ (closingCategory c b e) s p in
       (λ i.
       record {
         first = record { 0 = h1 i };
         months = h2 i;
-        before = record { 0 = h3 i };
+        before = record { 0 = r .begin .B-is i };
         through = record { 0 = h4 i };
         category = h5 i;
       })

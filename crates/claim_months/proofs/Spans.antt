@@ -145,6 +145,11 @@ runs c ok b e h fl =
       },
     )
 
+-- B of a month that starts in the window
+pub B-none : (b s p : ℕ) → b ≤ s → monthB b s p ≡ 0
+unfolding monthB
+B-none b s p h = rw (le-leb b s)
+
 -- in the runs' months, but for the last, U is 30 and there is no closing; but for the first, B is 0
 module _ (c : Claim) (ok : Sound c) (b e : ℕ) where
   U-full : (i : ℕ) → monthLast c i < exposedTo c e → monthU c b e (monthFirst c i) (monthLast c i) ≡ 30
@@ -158,10 +163,6 @@ module _ (c : Claim) (ok : Sound c) (b e : ℕ) where
       early : (z : Bool) (t s p x : ℕ) → p < pick z (min e t) e → pick (z && leb b t && leb t e && leb s t && leb t p) x 0 ≡ 0
       early false t s p x h = refl
       early true t s p x h = let k : p < min e t = h in rw (lt-leb t p (omega tests), and-false)
-
-  B-none : (i : ℕ) → b ≤ monthFirst c i → monthB b (monthFirst c i) (monthLast c i) ≡ 0
-  unfolding monthB
-  B-none i h = rw (le-leb b (monthFirst c i))
 
   -- the months of the run before the last end before l; those after the first start after b
   module _ (k m : ℕ) (r : Runs c b e k m) where
@@ -192,7 +193,7 @@ module _ (c : Claim) (ok : Sound c) (b e : ℕ) where
     pub month-B : (j : ℕ) → monthB b (monthFirst c (k + j)) (monthLast c (k + j)) ≡ spanB (runSpan c b e k m) j
     unfolding spanB
     month-B j =
-        is-pick (eqb j 0) (λ q. let e1 : k + j ≡ k = omega tests in rw e1) (λ q. B-none (k + j) (starts-late j (omega tests)))
+        is-pick (eqb j 0) (λ q. let e1 : k + j ≡ k = omega tests in rw e1) (λ q. B-none b (monthFirst c (k + j)) (monthLast c (k + j)) (starts-late j (omega tests)))
 
     pub month-category : (j : ℕ) → j < suc m
         → closingCategory c b e (monthFirst c (k + j)) (monthLast c (k + j)) ≡ spanCategory (runSpan c b e k m) j

@@ -13,6 +13,7 @@ use Rattle.calendar.specs.declared.Day.{Day}
 use Rattle.calendar.specs.declared.MaybeDay.{MaybeDay}
 use Rattle.calendar.specs.declared.MaybeDay.the-variants.{Known, NoDay}
 use Rattle.calendar.specs.Calendar.{dayNumber, monthIndex, monthLength, monthStart, indexLength, monthOf, lastDayNumber}
+use Rattle.claim_months.specs.declared.BeginMonth.{BeginMonth}
 use Rattle.claim_months.specs.declared.CheckedClaim.{CheckedClaim}
 use Rattle.claim_months.specs.declared.Claim.{Claim}
 use Rattle.claim_months.specs.declared.ClaimDays.{ClaimDays}
@@ -27,7 +28,7 @@ use Rattle.claim_months.specs.declared.Span.{Span}
 use Rattle.claim_months.specs.declared.Window.{Window}
 use Rattle.claim_months.specs.Claim.{isMissing, isClosed, firstDuration, category, claimCheck}
 use Rattle.claim_months.specs.ClaimMonths.{monthFirst, monthLast}
-use Rattle.claim_months.specs.Exposure.{MonthRecord, monthRecords}
+use Rattle.claim_months.specs.Exposure.{monthB, MonthRecord, monthRecords}
 use Rattle.claim_months.specs.Span.{spanOf, spanU, spanB}
 use Rattle.claim_months.specs.Listing.{rows}
 
@@ -149,6 +150,16 @@ pub record HoldsDay (c : Claim) (day : ℕ) (r : ClaimMonth) : Type 0 where
 abbrev pub HoldsFor : CheckedClaim → ℕ → ClaimMonth → Type 0
 HoldsFor k day r = (c : Claim) → Stands c k → HoldsDay c day r
 
+-- the claim month that holds f, in a window from day b on: it is claim month place + 1
+pub record Begins (c : Claim) (b f : ℕ) (r : BeginMonth) : Type 0 where
+  pub starts : r .first .0 ≡ monthFirst c (1 + r .place)
+  pub from : r .first .0 ≤ f
+  pub to : f ≤ monthLast c (1 + r .place)
+  pub B-is : r .before .0 ≡ monthB b (monthFirst c (1 + r .place)) (monthLast c (1 + r .place))
+
+abbrev pub BeginsFor : CheckedClaim → MonthDay → BeginMonth → Type 0
+BeginsFor k first r = (c : Claim) → Stands c k → Begins c (first .day .0) (fromOf k first .day .0) r
+
 -- the month records of a claim in a window with months
 abbrev pub recordsIn : Claim → MonthWindow → List MonthRecord
 recordsIn c w = monthRecords c (w .first .day .0) (w .last .day .0)
@@ -156,7 +167,7 @@ recordsIn c w = monthRecords c (w .first .day .0) (w .last .day .0)
 -- their span and, if there are any, the claim month that holds f
 pub record MonthsFor (k : CheckedClaim) (w : MonthWindow) (m : ExposedMonths) : Type 0 where
   pub span-is : (c : Claim) → Stands c k → m .span ≡ spanOf (recordsIn c w)
-  pub begin-is : 0 < m .span .months → HoldsFor k (fromOf k (w .first) .day .0) (m .begin)
+  pub begin-is : 0 < m .span .months → BeginsFor k (w .first) (m .begin)
 
 -- ---- the rows of a listing
 

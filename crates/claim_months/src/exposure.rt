@@ -4,7 +4,8 @@ ghost use mathlib.Core.List.{[]};
 ghost use Prim.Native.Nat.{_+_, _≤_};
 ghost use Rattle.claim_months.specs.Exposure.{monthB};
 ghost use Rattle.claim_months.specs.Span.{spanOf, spanIn};
-ghost use Rattle.claim_months.specs.Private.{closedOf, laterOf, fromOf, toOf, closingOf, lastUOf, lastCategoryOf, OfClaim, SoundWindow, MonthsFor};
+ghost use Rattle.claim_months.specs.Private.{closedOf, laterOf, fromOf, toOf, closingOf, lastUOf, lastCategoryOf, Placed, OfClaim, SoundWindow, BeginsFor, MonthsFor};
+use crate::BeginMonth;
 use crate::CheckedClaim;
 use crate::Claim;
 use crate::ClaimMonth;
@@ -79,6 +80,29 @@ fn month_b(first: Day, month: ClaimMonth) -> Thirtieths
     Thirtieths(30 - (month.last.0 - first.0 + 1))
 }
 
+// The claim month that holds f, in a window from a day on. Unless BCD is before that day it is the first one, which starts on BCD.
+fn begin_month(claim: CheckedClaim, first: MonthDay) -> BeginMonth
+    requires { ⌜ OfClaim claim ⌝ }
+    requires { ⌜ Placed first ⌝ }
+    ensures { λ r. ⌜ BeginsFor claim first r ⌝ }
+{
+    if first.day.0 <= claim.bcd.day.0 {
+        let bcd = claim.bcd.day;
+        return BeginMonth {
+            place: 0,
+            first: bcd,
+            before: Thirtieths(0),
+        };
+    }
+    let month = claim_month(claim, first);
+    let start = month.first;
+    BeginMonth {
+        place: month.place,
+        first: start,
+        before: month_b(first.day, month),
+    }
+}
+
 // U of the closing month.
 fn closing_u(claim: CheckedClaim, month: ClaimMonth) -> Thirtieths
     requires { ⌜ month .first .0 ≤ claim .termination .day .0 ⌝ }
@@ -137,10 +161,10 @@ fn no_months() -> ExposedMonths
         through: Thirtieths(0),
         category: 0,
     };
-    let begin = ClaimMonth {
+    let begin = BeginMonth {
         place: 0,
         first: Day(0),
-        last: Day(0),
+        before: Thirtieths(0),
     };
     ExposedMonths { span, begin }
 }
@@ -156,12 +180,13 @@ pub(crate) fn exposed_months(claim: CheckedClaim, window: MonthWindow) -> Expose
     if to.day.0 < from.day.0 {
         return no_months();
     }
-    let begin = claim_month(claim, from);
+    let begin = begin_month(claim, window.first);
     let end = claim_month(claim, to);
+    let before = begin.before;
     let span = Span {
         first: Duration(claim.first.0 + begin.place),
         months: end.place - begin.place + 1,
-        before: month_b(window.first.day, begin),
+        before,
         through: last_u(claim, window, end),
         category: last_category(claim, window),
     };

@@ -120,10 +120,17 @@ struct ClaimMonth {
     last: Day,
 }
 
-// The months of a claim in a window, as a span, and the claim month that holds the first exposed day: all zero if there are none.
+// The claim month that holds the first exposed day, by its place, with its first day and its B.
+struct BeginMonth {
+    place: u32,
+    first: Day,
+    before: Thirtieths,
+}
+
+// The months of a claim in a window, as a span, and the first of them: all zero if there are none.
 struct ExposedMonths {
     span: Span,
-    begin: ClaimMonth,
+    begin: BeginMonth,
 }
 
 // A month record of a listing, with thirtieths `upper` − `lower`.

@@ -18,7 +18,7 @@ use Rattle.claim_months.specs.ClaimMonths.{bcdMonth, startIn, monthFirst
 use Rattle.claim_months.specs.Exposure.{exposedFrom, exposedTo, MonthRecord, monthRecord, monthRecords}
 use Rattle.claim_months.specs.Listing.{row, rows}
 use Rattle.claim_months.specs.Span.{SpanBounds}
-use Rattle.claim_months.specs.Private.{Placed, Stands, fromOf, HoldsDay, RowBounds, recordOf}
+use Rattle.claim_months.specs.Private.{Placed, Stands, fromOf, Begins, RowBounds, recordOf}
 use Rattle.claim_months.proofs.Months.{bcd-low, next-starts}
 use Rattle.claim_months.proofs.Spans.{span-bounds}
 use Rattle.claim_months.proofs.Checked.{later-placed, claim-sound, offset-is, bcd-month-is, start-is, start-placed, from-is, from-placed, to-is}
@@ -72,7 +72,7 @@ GivenAt c =
     Given (a .claim) (a .months .span) (f .exposed-from .result) (c .exposed-to .result .day) (record { day = x .first; month = a .claim .bcd .month + x .place })
 
 -- the claim month that holds f
-begin : (c : tie.Start Inv-loop μ-loop) (d : Claim) → Stands d (c .args .claim) → HoldsDay d (day (fromOf (c .args .claim) (c .args .window .first))) (c .args .months .begin)
+begin : (c : tie.Start Inv-loop μ-loop) (d : Claim) → Stands d (c .args .claim) → Begins d (day (c .args .window .first)) (day (fromOf (c .args .claim) (c .args .window .first))) (c .args .months .begin)
 begin c d s = c .pre .1 .1 .0 .begin-is (c .pre .1 .1 .1 .0) d s
 
 given : (c : tie.After-exposed-to Inv-loop μ-loop) →
