@@ -25,6 +25,16 @@ pub const VALUATION: u8 = 12;
 
 pub const DISCOUNT: u8 = 13;
 
+pub const TOO_MANY_RECORDS: u8 = 14;
+
+pub const OTHER_WINDOW: u8 = 15;
+
+pub const BENEFIT: u8 = 16;
+
 pub const OPEN_CLAIMS: u8 = 17;
 
+pub const WITHDRAWAL: u8 = 18;
+
 pub const NO_COUNT: u8 = 19;
+
+pub const LOAD: u8 = 20;
