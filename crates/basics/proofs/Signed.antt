@@ -1,4 +1,4 @@
--- Signed numbers up to 2⁶² in size: 64 bits hold them, and hand them back.
+-- Signed numbers up to 2⁶³ − 1 in size: 64 bits hold them, and hand them back.
 -- Assumes nothing.
 use Prim.Native.Nat.{_≤_}
 use mathlib.Core.Path.{_≡_, ap₂, _∙_, subst⁻¹}
@@ -9,7 +9,7 @@ use mir.Val.{SFits, toZ, ofZ}
 use mir.Facts.{toZ-ofZ}
 
 abbrev pub Small : ℤ → Type 0
-Small z = natAbs z ≤ 4611686018427387904
+Small z = natAbs z ≤ 9223372036854775807
 
 pub small-fits : (z : ℤ) → Small z → SFits w64 z
 small-fits (pos n) h = record { sfits = omega arith }

@@ -14,7 +14,7 @@ difference-small : (c : tie.After-struct-known2) → Small (pos (c .before .befo
 difference-small c =
     let u = c .before .before .before .upper .result .0 in
     let l = c .before .lower .result .0 in
-    rw (← sub-is u l) (size-sub u l 4611686018427387904 (omega arith) (omega arith))
+    rw (← sub-is u l) (size-sub u l 9223372036854775807 (omega arith) (omega arith))
 
 sub-result : tie.Need-sub-result
 sub-result c =
