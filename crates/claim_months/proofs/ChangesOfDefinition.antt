@@ -4,7 +4,7 @@ use Prim.Native.Nat.{ℕ, zero, suc}
 use mathlib.Core.Path.{_≡_, refl}
 use mathlib.Core.Bool.{true}
 use Rattle.claim_months.specs.declared.Claim.{Claim}
-use Rattle.claim_months.specs.Claim.{isClosed, ep, firstDuration, category, datesSound, statusSound, sequenceSound, epSound, claimCheck}
+use Rattle.claim_months.specs.Claim.{isClosed, ep, firstDuration, category, datesSound, statusSound, sequenceSound, benefitSound, epSound, claimCheck}
 use Rattle.claim_months.specs.ClaimMonths.{bcdMonth, daysToMonthEnd, startIn, monthFirst, monthLast}
 use Rattle.claim_months.specs.Exposure.{closedIn, exposedFrom, exposedTo, meets, closingU, monthU, closingCategory, monthRecord, recordsFrom, monthRecords}
 use Rattle.claim_months.specs.Span.{exposureCheck, spanIn}
@@ -32,7 +32,7 @@ module _ (c : Claim) (x : ℕ) (same : category c ≡ category (withCode x c)) w
 
 module _ (c : Claim) (z : isClosed c ≡ true) (six : c .code ≡ 6) where
   checks-same : claimCheck c ≡ claimCheck (withCode 1 c)
-  unfolding claimCheck withCode isClosed ep datesSound statusSound sequenceSound epSound
+  unfolding claimCheck withCode isClosed ep datesSound statusSound sequenceSound benefitSound epSound
   checks-same = rw (z, six)
 
   category-same : category c ≡ category (withCode 1 c)

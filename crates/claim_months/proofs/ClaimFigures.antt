@@ -13,7 +13,7 @@ use Rattle.basics.specs.Checks.{_then_}
 use Rattle.basics.proofs.Tests.{tests}
 use Rattle.claim_months.specs.declared.Claim.{Claim}
 use Rattle.claim_months.specs.declared.Span.{Span}
-use Rattle.claim_months.specs.Claim.{isMissing, isClosed, ep, firstDuration, category, datesSound, statusSound, sequenceSound, epSound, claimCheck}
+use Rattle.claim_months.specs.Claim.{isMissing, isClosed, ep, firstDuration, category, datesSound, statusSound, sequenceSound, benefitSound, epSound, claimCheck}
 use Rattle.claim_months.specs.ClaimMonths.{bcdMonth, daysToMonthEnd, startIn, monthFirst, monthLast}
 use Rattle.claim_months.specs.Windows.{windowSound, windowCheck}
 use Rattle.claim_months.specs.Exposure.{closedIn, exposedFrom, exposedTo, monthB, closingU, monthU, closingCategory, thirtieths}
@@ -62,7 +62,7 @@ span first months before through category =
     record { first = record { 0 = first }; months = months; before = record { 0 = before }; through = record { 0 = through }; category = category }
 
 pub claim-figures : ClaimFigures
-unfolding isMissing isClosed ep firstDuration category datesSound statusSound sequenceSound epSound claimCheck leapYear monthLength isDate monthIndex indexLength daysBefore monthStart dayNumber bcdMonth daysToMonthEnd startIn monthFirst monthLast windowSound windowCheck _then_ closedIn exposedFrom exposedTo monthB closingU monthU closingCategory spanU spanB spanThirtieths spanWeighted exposureCheck sumTo
+unfolding isMissing isClosed ep firstDuration category datesSound statusSound sequenceSound benefitSound epSound claimCheck leapYear monthLength isDate monthIndex indexLength daysBefore monthStart dayNumber bcdMonth daysToMonthEnd startIn monthFirst monthLast windowSound windowCheck _then_ closedIn exposedFrom exposedTo monthB closingU monthU closingCategory spanU spanB spanThirtieths spanWeighted exposureCheck sumTo
 claim-figures =
     record {
       leap-day = refl;

@@ -1,4 +1,4 @@
--- What the checks 2 to 5 say of a claim that passes them.
+-- What the checks 2 to 5 and 16 say of a claim that passes them.
 -- Assumes nothing.
 use Prim.Native.Nat.{_≤_}
 use mathlib.Core.Path.{_≡_, refl, sym, _∙_}
@@ -8,10 +8,10 @@ use borrow.Author.Tests.{leb-true}
 use Rattle.basics.specs.Pick.{pick}
 use Rattle.calendar.specs.Calendar.{isDate, dayNumber}
 use Rattle.basics.specs.Checks.{check}
-use Rattle.basics.proofs.Tests.{tests, and-left, and-right}
+use Rattle.basics.proofs.Tests.{tests, by, and-left, and-right}
 use Rattle.basics.proofs.Checks.{check-passed, then-passed}
 use Rattle.claim_months.specs.declared.Claim.{Claim}
-use Rattle.claim_months.specs.Claim.{isMissing, isClosed, bcdDay, terminationDay, ep, datesSound, statusSound, sequenceSound, epSound, claimCheck}
+use Rattle.claim_months.specs.Claim.{isMissing, isClosed, bcdDay, terminationDay, ep, datesSound, statusSound, sequenceSound, benefitSound, epSound, weight, claimCheck}
 
 pub record Sound (c : Claim) : Type 0 where
   pub disability-date : isDate (c .disability) ≡ true
@@ -23,6 +23,7 @@ pub record Sound (c : Claim) : Type 0 where
   pub termination-missing : isClosed c ≡ false → isMissing (c .termination) ≡ true
   pub code-low : isClosed c ≡ true → 1 ≤ c .code
   pub code-high : isClosed c ≡ true → c .code ≤ 6
+  pub benefit-high : c .benefit ≤ 200
   pub ep-low : 15 ≤ ep c
 
 -- what is asked of closed claims only
@@ -81,9 +82,9 @@ sequence c e =
       bcd-first = λ h. leb-true _ _ (or-closed z after (and-right first (not z || after) e) h);
     }
 
-of-tests : (c : Claim) → datesSound c ≡ true → statusSound c ≡ true → sequenceSound c ≡ true → epSound c ≡ true → Sound c
-unfolding statusSound epSound
-of-tests c d s q p =
+of-tests : (c : Claim) → datesSound c ≡ true → statusSound c ≡ true → sequenceSound c ≡ true → benefitSound c ≡ true → epSound c ≡ true → Sound c
+unfolding statusSound benefitSound epSound
+of-tests c d s q b p =
     let z = isClosed c in
     let k = dates c d in
     let o = sequence c q in
@@ -102,6 +103,7 @@ of-tests c d s q p =
       termination-missing = λ h. and-right (eqb (c .code) 0) (isMissing (c .termination)) (open-code z (low && high) open-sound status h);
       code-low = λ h. leb-true _ _ (and-left low high (codes h));
       code-high = λ h. leb-true _ _ (and-right low high (codes h));
+      benefit-high = leb-true _ _ b;
       ep-low = leb-true _ _ p;
     }
 
@@ -111,5 +113,18 @@ sound c e =
     let p2 = then-passed (check (datesSound c) 2) _ e in
     let p3 = then-passed (check (statusSound c) 3) _ (p2 .1) in
     let p4 = then-passed (check (sequenceSound c) 4) _ (p3 .1) in
+    let p16 = then-passed (check (benefitSound c) 16) _ (p4 .1) in
     of-tests c (check-passed (datesSound c) 2 (omega tests) (p2 .0)) (check-passed (statusSound c) 3 (omega tests) (p3 .0))
-    (check-passed (sequenceSound c) 4 (omega tests) (p4 .0)) (check-passed (epSound c) 5 (omega tests) (p4 .1))
+    (check-passed (sequenceSound c) 4 (omega tests) (p4 .0)) (check-passed (benefitSound c) 16 (omega tests) (p16 .0))
+    (check-passed (epSound c) 5 (omega tests) (p16 .1))
+
+-- a claim weighs at least 1, and one that passes its checks at most 200
+pub weight-low : (c : Claim) → 1 ≤ weight c
+unfolding weight
+weight-low c = by (eqb (c .benefit) 0) (λ t. 1 ≤ pick t 1 (c .benefit)) (λ q. omega tests) (λ q. omega tests)
+
+pub weight-high : (c : Claim) → claimCheck c ≡ 0 → weight c ≤ 200
+unfolding weight
+weight-high c h =
+    let b = sound c h .benefit-high in
+    by (eqb (c .benefit) 0) (λ t. pick t 1 (c .benefit) ≤ 200) (λ q. omega tests) (λ q. omega tests)

@@ -23,6 +23,7 @@ withCode x c =
       status = c .status;
       code = x;
       cell = c .cell;
+      benefit = c .benefit;
     }
 
 -- A closed claim with code 6 has the checks, category, month records, span and listing of the same claim with code 1, recovery, in every window

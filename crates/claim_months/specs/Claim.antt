@@ -1,10 +1,10 @@
--- Document 01, Claim: EP, first duration, category, and the checks 2 to 5 in the table's order.
+-- Document 01, Claim: EP, first duration, category, and the checks 2 to 5 in the table's order, with document 02's benefit.
 use Prim.Native.Nat.{ℕ, _+_, _-_, _/_}
 use mathlib.Core.Bool.{Bool, not, _&&_, _||_}
 use lib.Dec.{leb, eqb}
 use Rattle.calendar.specs.declared.Date.{Date}
 use Rattle.basics.specs.Pick.{pick}
-use Rattle.basics.specs.Checks.{check, _then_, refuse-date, refuse-status, refuse-sequence, refuse-short-elimination}
+use Rattle.basics.specs.Checks.{check, _then_, refuse-date, refuse-status, refuse-sequence, refuse-benefit, refuse-short-elimination}
 use Rattle.calendar.specs.Calendar.{isDate, dayNumber}
 use Rattle.claim_months.specs.declared.Claim.{Claim}
 
@@ -58,14 +58,23 @@ statusSound c =
 unfoldable pub sequenceSound : Claim → Bool
 sequenceSound c = leb (dayNumber (c .disability)) (bcdDay c) && (not (isClosed c) || leb (bcdDay c) (terminationDay c))
 
+-- 16, benefit: over 200, in hundreds of dollars a month (document 02, No. 7)
+unfoldable pub benefitSound : Claim → Bool
+benefitSound c = leb (c .benefit) 200
+
+-- what a claim weighs: its benefit; a 0 is kept in the record and weighs as 1
+unfoldable pub weight : Claim → ℕ
+weight c = pick (eqb (c .benefit) 0) 1 (c .benefit)
+
 -- 5, short elimination: EP below 15
 unfoldable pub epSound : Claim → Bool
 epSound c = leb 15 (ep c)
 
--- the number of the first of the checks 2 to 5 that fails, or 0
+-- the number of the first of the checks 2 to 5 that fails, or 0; 16 stands between 4 and 5
 unfoldable pub claimCheck : Claim → ℕ
 claimCheck c =
     check (datesSound c) refuse-date
     then check (statusSound c) refuse-status
     then check (sequenceSound c) refuse-sequence
+    then check (benefitSound c) refuse-benefit
     then check (epSound c) refuse-short-elimination

@@ -38,7 +38,7 @@ missing = date 0 0 0
 -- claims of cell 0, by their dates: open, settled (code 3) and recovered (code 1)
 abbrev pub claimOf : Date → Date → Date → Date → ℕ → ℕ → Claim
 claimOf disability bcd termination maximum status code =
-    record { number = 0; disability = disability; bcd = bcd; termination = termination; maximum = maximum; status = status; code = code; cell = 0 }
+    record { number = 0; disability = disability; bcd = bcd; termination = termination; maximum = maximum; status = status; code = code; cell = 0; benefit = 0 }
 
 abbrev pub openClaim : Date → Date → Claim
 openClaim disability bcd = claimOf disability bcd missing missing 0 0

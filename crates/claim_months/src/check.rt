@@ -1,4 +1,4 @@
-// The checks 2 to 5 of a claim. Each of its dates becomes a day number once.
+// The checks 2 to 5 of a claim, with 16 between 4 and 5. Each of its dates becomes a day number once.
 ghost use mathlib.Core.Path.{_≡_};
 ghost use mathlib.Core.Bool.{true, not, _&&_, _||_};
 ghost use Prim.Native.Nat.{_-_, _≤_};
@@ -104,7 +104,7 @@ pub(crate) fn elimination(days: ClaimDays) -> u32
     days.bcd.0 - days.disability.0
 }
 
-// The number of the first of the checks 2 to 5 that fails, of a claim that passes check 2, or 0.
+// The number of the first of the checks 2 to 5 and 16 that fails, of a claim that passes check 2, or 0.
 fn days_check(claim: Claim, days: ClaimDays) -> u8
     requires { ⌜ datesSound claim ≡ true ⌝ }
     requires { ⌜ days ≡ daysOf claim ⌝ }
@@ -116,13 +116,16 @@ fn days_check(claim: Claim, days: ClaimDays) -> u8
     if !sequence_sound(claim.status == 1, days) {
         return refusal::SEQUENCE;
     }
+    if claim.benefit > 200 {
+        return refusal::BENEFIT;
+    }
     if elimination(days) < 15 {
         return refusal::SHORT_ELIMINATION;
     }
     0
 }
 
-// The claim as a checked value, or the number of the first of the checks 2 to 5 that fails.
+// The claim as a checked value, or the number of the first of the checks 2 to 5 and 16 that fails.
 pub(crate) fn checked(claim: Claim) -> MaybeChecked
     ensures { λ r. ⌜ r ≡ pick (eqb (claimCheck claim) 0) (MaybeChecked.Checked (checkedOf claim)) (MaybeChecked.Refused (claimCheck claim)) ⌝ }
 {
@@ -136,7 +139,7 @@ pub(crate) fn checked(claim: Claim) -> MaybeChecked
     MaybeChecked::Checked(sound_claim(claim, days))
 }
 
-// The number of the first of the checks 2 to 5 that fails, or 0.
+// The number of the first of the checks 2 to 5 and 16 that fails, or 0.
 pub fn check(claim: Claim) -> u8
     ensures { λ r. ⌜ r ≡ claimCheck claim ⌝ }
 {

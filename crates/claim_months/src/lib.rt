@@ -5,6 +5,7 @@ pub mod listing;
 mod month;
 mod sound_claim;
 mod span_months;
+pub mod weight;
 pub mod windows;
 
 use basics::Duration;
@@ -21,6 +22,8 @@ pub struct Claim {
     pub status: u8,
     pub code: u8,
     pub cell: u16,
+    // In hundreds of dollars a month.
+    pub benefit: u8,
 }
 
 // A window, as two day numbers, both included.
@@ -91,7 +94,7 @@ enum MaybeDays {
     NoDays,
 }
 
-// A claim that passed the checks 2 to 5, as far as its months of exposure need it.
+// A claim that passed the checks 2 to 5 and 16, as far as its months of exposure need it.
 struct CheckedClaim {
     bcd: MonthDay,
     // Claim months start `offset` days after a calendar month's first day, or, if `backward`, before its last.

@@ -38,6 +38,7 @@ fn main() {
     bad_dates();
     bad_statuses();
     bad_sequences();
+    bad_benefits();
     lists();
     durations();
 }
@@ -168,6 +169,24 @@ fn bad_sequences() {
     spring(2011, claim(date(bcd), bcd, 0, 0, 0, 0));
 }
 
+// A benefit over 200, alone, with a BCD before disability, and with a short elimination period.
+fn bad_benefits() {
+    let day = date(20101112);
+    benefit(200, claim(day, 20110210, 20110216, 0, 1, 3));
+    benefit(201, claim(day, 20110210, 20110216, 0, 1, 3));
+    benefit(201, claim(date(20110211), 20110210, 0, 0, 0, 0));
+    benefit(255, claim(date(20110210), 20110210, 0, 0, 0, 0));
+}
+
+fn benefit(benefit: u8, claim: Claim) {
+    put(b"benefit ");
+    put_number(benefit as u64);
+    put(b", ");
+    let mut paid = claim;
+    paid.benefit = benefit;
+    spring(2011, paid);
+}
+
 // Lists with room for just the records, for one number fewer, and for no record.
 fn lists() {
     let first = date(20110101);
@@ -216,6 +235,7 @@ fn claim(
         status,
         code,
         cell: 0,
+        benefit: 0,
     }
 }
 

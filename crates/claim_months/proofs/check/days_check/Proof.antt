@@ -11,7 +11,7 @@ use Rattle.basics.specs.Checks.{_then_}
 use Rattle.calendar.specs.Calendar.{dayNumber}
 use Rattle.claim_months.specs.declared.Claim.{Claim}
 use Rattle.claim_months.specs.declared.ClaimDays.{ClaimDays}
-use Rattle.claim_months.specs.Claim.{isClosed, bcdDay, terminationDay, ep, statusSound, sequenceSound, epSound, claimCheck}
+use Rattle.claim_months.specs.Claim.{isClosed, bcdDay, terminationDay, ep, statusSound, sequenceSound, benefitSound, epSound, claimCheck}
 use Rattle.claim_months.specs.Private.{daysOf}
 use Rattle.claim_months.proofs.Sound.{sequence}
 use borrow.Author.Needs.{needs}
@@ -55,26 +55,36 @@ returns-2 c =
 in-sequence : (c : tie.Else2) → sequenceSound (c .before .before .before .before .before .args .claim) ≡ true
 in-sequence c = sym (sequence-at (c .before)) ∙ not-false _ (c .if2 .left)
 
-elimination-requires : tie.Need-elimination-requires
-elimination-requires c κs = let s = c .before .before .before .before .before in ordered _ _ (s .pre .1) (in-sequence c)
-
 returns-3 : tie.Need-returns-3
-unfolding claimCheck _then_ epSound
+unfolding claimCheck _then_ benefitSound
 returns-3 c =
     let e2 = c .before .before in
     let e1 = e2 .before .before .before in
     let s = e1 .before .before in
-    simp (s .pre .0, status e1, in-sequence e2, lt-leb 15 (ep (s .args .claim)) (omega (arith, c .before .elimination .ensures, ep-is _ _ (s .pre .1))))
+    simp (s .pre .0, status e1, in-sequence e2, lt-leb (s .args .claim .benefit) 200 (omega arith))
+
+elimination-requires : tie.Need-elimination-requires
+elimination-requires c κs = let s = c .before .before .before .before .before .before .before in ordered _ _ (s .pre .1) (in-sequence (c .before .before))
 
 returns-4 : tie.Need-returns-4
-unfolding claimCheck _then_ epSound
+unfolding claimCheck _then_ benefitSound epSound
 returns-4 c =
-    let e2 = c .before .before in
+    let e3 = c .before .before in
+    let e2 = e3 .before .before in
     let e1 = e2 .before .before .before in
     let s = e1 .before .before in
-    simp (s .pre .0, status e1, in-sequence e2, le-leb 15 (ep (s .args .claim)) (omega (arith, c .before .elimination .ensures, ep-is _ _ (s .pre .1))))
+    simp (s .pre .0, status e1, in-sequence e2, le-leb (s .args .claim .benefit) 200 (omega arith), lt-leb 15 (ep (s .args .claim)) (omega (arith, c .before .elimination .ensures, ep-is _ _ (s .pre .1))))
+
+returns-5 : tie.Need-returns-5
+unfolding claimCheck _then_ benefitSound epSound
+returns-5 c =
+    let e3 = c .before .before in
+    let e2 = e3 .before .before in
+    let e1 = e2 .before .before .before in
+    let s = e1 .before .before in
+    simp (s .pre .0, status e1, in-sequence e2, le-leb (s .args .claim .benefit) 200 (omega arith), le-leb 15 (ep (s .args .claim)) (omega (arith, c .before .elimination .ensures, ep-is _ _ (s .pre .1))))
 
 pub days-check-spec : {M : Type 1} → statement M
 days-check-spec =
     tie.close
-    (tie.spec (λ c κs. search needs) returns (λ c κs. search needs) returns-2 elimination-requires returns-3 returns-4)
+    (tie.spec (λ c κs. search needs) returns (λ c κs. search needs) returns-2 returns-3 elimination-requires returns-4 returns-5)
