@@ -1,17 +1,17 @@
--- The algebra of sums: `plus` commutes and associates, `none` is neutral, and `minus` undoes it.
+-- The algebra of sums: `plus` commutes and associates, `none` is neutral, `minus` undoes it, and `times` distributes over it.
 -- Assumes nothing.
-use Prim.Native.Nat.{ℕ, _+_, _-_, _<_}
+use Prim.Native.Nat.{ℕ, _+_, _-_, _*_, _<_}
 use mathlib.Core.Path.{_≡_, sym, ap, ap₂, _∙_}
 use mathlib.Core.List.{List}
 use lib.ListN.{length, getD}
-use lib.IntN.{ℤ, pos, _+ℤ_, _-ℤ_, +ℤ-assoc, +ℤ-comm, +ℤ-idl}
-use native.Mathlib.Nat.{add-assoc, add-comm, zero-add}
+use lib.IntN.{ℤ, pos, _+ℤ_, _-ℤ_, _*ℤ_, +ℤ-assoc, +ℤ-comm, +ℤ-idl, *ℤ-comm, *ℤ-one, one}
+use native.Mathlib.Nat.{add-comm, zero-add, one-mul, mul-add}
 use Rattle.basics.specs.Tables.{table}
 use Rattle.basics.proofs.Tests.{tests}
-use Rattle.basics.proofs.Integers.{plus-minus}
+use Rattle.basics.proofs.Integers.{plus-minus, times-sum}
 use Rattle.basics.proofs.Tables.{table-length, table-at, table-same, list-table}
 use Rattle.study.specs.declared.Sums.{Sums}
-use Rattle.study.specs.Sums.{signedEach, countEach, each, none, plus, minus}
+use Rattle.study.specs.Sums.{signedEach, countEach, each, none, plus, minus, times}
 
 -- sums with as many places as the code's lists have
 pub record Shaped (s : Sums) : Type 0 where
@@ -101,3 +101,32 @@ minus-plus a b s =
     (λ k h. sym (ap (λ (n : ℤ). n -ℤ getD ys k (pos 0)) (signed-at _+ℤ_ xs ys k h) ∙ plus-minus (getD xs k (pos 0)) (getD ys k (pos 0))))) in
     sums-same (minus (plus a b) b) a (z _ _ (s .thirtieths))
     (sym (count-is _-_ _ (b .closings) (a .closings) (s .closings) (λ k h. let t = count-at _+_ (a .closings) (b .closings) k h in omega tests))) (z _ _ (s .recoveries)) (z _ _ (s .deaths))
+
+-- n times some sums: their places, once them, and n times two of them together
+pub times-shaped : (n : ℕ) (a : Sums) → Shaped (times n a)
+times-shaped n a = each-shaped _ _ a none
+
+pub times-one : (a : Sums) → Shaped a → times 1 a ≡ a
+unfolding each one
+times-one a s =
+    let z : (xs ys : List ℤ) → length xs ≡ 5 → signedEach (λ x y. pos 1 *ℤ x) xs ys ≡ xs =
+    λ xs ys e. sym (signed-is (λ x y. pos 1 *ℤ x) xs ys xs e (λ k h. sym (*ℤ-comm (pos 1) (getD xs k (pos 0)) ∙ *ℤ-one (getD xs k (pos 0))))) in
+    sums-same (times 1 a) a (z _ _ (s .thirtieths))
+    (sym (count-is (λ x y. 1 * x) (a .closings) (none .closings) (a .closings) (s .closings) (λ k h. sym (one-mul (getD (a .closings) k 0))))) (z _ _ (s .recoveries)) (z _ _ (s .deaths))
+
+pub times-plus : (n : ℕ) (a b : Sums) → times n (plus a b) ≡ plus (times n a) (times n b)
+unfolding each
+times-plus n a b =
+    let op : ℤ → ℤ → ℤ = λ x y. pos n *ℤ x in
+    let cop : ℕ → ℕ → ℕ = λ x y. n * x in
+    let z : (xs ys zs : List ℤ) → signedEach op (signedEach _+ℤ_ xs ys) zs ≡ signedEach _+ℤ_ (signedEach op xs zs) (signedEach op ys zs) =
+    λ xs ys zs. signed-is _+ℤ_ (signedEach op xs zs) (signedEach op ys zs) _ (signed-length op (signedEach _+ℤ_ xs ys) zs)
+    (λ k h.
+    signed-at op (signedEach _+ℤ_ xs ys) zs k h ∙ ap (λ (x : ℤ). pos n *ℤ x) (signed-at _+ℤ_ xs ys k h)
+    ∙ times-sum (pos n) (getD xs k (pos 0)) (getD ys k (pos 0)) ∙ sym (ap₂ _+ℤ_ (signed-at op xs zs k h) (signed-at op ys zs k h))) in
+    let c : (xs ys zs : List ℕ) → countEach cop (countEach _+_ xs ys) zs ≡ countEach _+_ (countEach cop xs zs) (countEach cop ys zs) =
+    λ xs ys zs. count-is _+_ (countEach cop xs zs) (countEach cop ys zs) _ (count-length cop (countEach _+_ xs ys) zs)
+    (λ k h.
+    count-at cop (countEach _+_ xs ys) zs k h ∙ ap (λ (x : ℕ). n * x) (count-at _+_ xs ys k h) ∙ mul-add n (getD xs k 0) (getD ys k 0)
+    ∙ sym (ap₂ _+_ (count-at cop xs zs k h) (count-at cop ys zs k h))) in
+    sums-same (times n (plus a b)) (plus (times n a) (times n b)) (z _ _ _) (c _ _ _) (z _ _ _) (z _ _ _)

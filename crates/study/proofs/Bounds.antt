@@ -1,6 +1,6 @@
 -- Sums within bounds, as one test and as facts of their four lists, and what is added to sums within and past the bounds of refusal 9.
 -- Assumes nothing.
-use Prim.Native.Nat.{ℕ, _+_, _-_, _*_, _≤_, _<_}
+use Prim.Native.Nat.{ℕ, _+_, _*_, _≤_, _<_}
 use mathlib.Core.Path.{_≡_, refl, sym, ap, _∙_}
 use mathlib.Core.Bool.{Bool, true, false, _&&_}
 use mathlib.Core.List.{List}
@@ -11,8 +11,7 @@ use Rattle.basics.specs.Tables.{allWithin, allAtMost}
 use Rattle.basics.proofs.Tests.{tests, and-left, and-right, pick-is}
 use Rattle.basics.proofs.Tables.{within-list, within-at, at-most-list, at-most-at}
 use Rattle.study.specs.declared.Sums.{Sums}
-use Rattle.study.specs.Sums.{within}
-use Rattle.study.specs.PreparedAdding.{roomFor, guardedSum, guardedCount}
+use Rattle.study.specs.PreparedAdding.{guardedSum, guardedCount}
 use Rattle.study.specs.Private.{bounded}
 
 pub record InBounds (exposure expected count : ℕ) (s : Sums) : Type 0 where
@@ -55,52 +54,35 @@ module _ (t e n : ℕ) (s : Sums) where
         closings = at-most-list n′ (s .closings) (λ k _. let h = at-most-at n (s .closings) k (b .closings) in omega tests);
       }
 
--- the bounds of refusal 9, and those with room for n claims
-pub within-bounds : (s : Sums) → within 1 s ≡ bounded 27000000000 27000000000000000 500000 s
-unfolding within bounded
-within-bounds s = refl
-
-pub room-bounds : (n : ℕ) (s : Sums) → roomFor n s ≡ bounded (27000000000 - 54000 * n) (27000000000000000 - 240000000000000 * n) (500000 - n) s
-unfolding roomFor bounded
-room-bounds n s = refl
-
--- an answer on bounds that are these
-module _ (t e n : ℕ) (s : Sums) (r : Bool) (q : r ≡ bounded t e n s) where
-  pub within-so : t ≡ 27000000000 → e ≡ 27000000000000000 → n ≡ 500000 → r ≡ within 1 s
-  within-so a b c = q ∙ (λ i. bounded (a i) (b i) (c i) s) ∙ sym (within-bounds s)
-
-  pub room-so : (k : ℕ) → t ≡ 27000000000 - 54000 * k → e ≡ 27000000000000000 - 240000000000000 * k → n ≡ 500000 - k → r ≡ roomFor k s
-  room-so k a b c = q ∙ (λ i. bounded (a i) (b i) (c i) s) ∙ sym (room-bounds k s)
-
--- an amount added to a sum that a test finds within the bound, and to one past it; nothing added; the same of a count
-module _ (x y : ℤ) (b : ℕ) (r : Bool) (t : r ≡ leb (natAbs x) b) (e : b ≡ 27000000000000000) where
-  so : r ≡ leb (natAbs x) 27000000000000000
+-- an amount added to a sum that a test finds within m times the bound, and to one past it; nothing added; the same of a count
+module _ (m : ℕ) (x y : ℤ) (b : ℕ) (r : Bool) (t : r ≡ leb (natAbs x) b) (e : b ≡ 27000000000000000 * m) where
+  so : r ≡ leb (natAbs x) (27000000000000000 * m)
   so = t ∙ ap (leb (natAbs x)) e
 
-  pub sum-raised : r ≡ true → guardedSum x y ≡ x +ℤ y
+  pub sum-raised : r ≡ true → guardedSum m x y ≡ x +ℤ y
   unfolding guardedSum
   sum-raised h = rw (sym so ∙ h)
 
-  pub sum-past : r ≡ false → guardedSum x y ≡ x
+  pub sum-past : r ≡ false → guardedSum m x y ≡ x
   unfolding guardedSum
   sum-past h = rw (sym so ∙ h)
 
-  pub sum-small : r ≡ true → natAbs x ≤ 27000000000000000
-  sum-small h = leb-true (natAbs x) 27000000000000000 (sym so ∙ h)
+  pub sum-small : r ≡ true → natAbs x ≤ 27000000000000000 * m
+  sum-small h = leb-true (natAbs x) (27000000000000000 * m) (sym so ∙ h)
 
-pub sum-none : (x : ℤ) → guardedSum x (pos 0) ≡ x
+pub sum-none : (m : ℕ) (x : ℤ) → guardedSum m x (pos 0) ≡ x
 unfolding guardedSum
-sum-none x = pick-is (leb (natAbs x) 27000000000000000) (λ _. +ℤ-idr x) (λ _. refl)
+sum-none m x = pick-is (leb (natAbs x) (27000000000000000 * m)) (λ _. +ℤ-idr x) (λ _. refl)
 
-module _ (x y : ℕ) where
-  pub count-raised : x ≤ 500000 → guardedCount x y ≡ x + y
+module _ (m x y : ℕ) where
+  pub count-raised : x ≤ 500000 * m → guardedCount m x y ≡ x + y
   unfolding guardedCount
-  count-raised h = rw (le-leb x 500000 h)
+  count-raised h = rw (le-leb x (500000 * m) h)
 
-  pub count-past : 500000 < x → guardedCount x y ≡ x
+  pub count-past : 500000 * m < x → guardedCount m x y ≡ x
   unfolding guardedCount
-  count-past h = rw (lt-leb x 500000 h)
+  count-past h = rw (lt-leb x (500000 * m) h)
 
-pub count-none : (x : ℕ) → guardedCount x 0 ≡ x
+pub count-none : (m x : ℕ) → guardedCount m x 0 ≡ x
 unfolding guardedCount
-count-none x = pick-is (leb x 500000) (λ _. omega tests) (λ _. refl)
+count-none m x = pick-is (leb x (500000 * m)) (λ _. omega tests) (λ _. refl)

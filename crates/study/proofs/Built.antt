@@ -1,8 +1,8 @@
 -- A run's study is the study of the claims that it has taken, at every step; so a claim's answer is its own, whatever came before it.
 -- Assumes nothing.
-use Prim.Native.Nat.{ℕ, zero, suc, _+_, _-_, _≤_, _<_}
-use mathlib.Core.Path.{_≡_, refl, sym, ap, ap₂, _∙_, subst⁻¹}
-use mathlib.Core.Bool.{Bool, true, false, _&&_}
+use Prim.Native.Nat.{ℕ, _+_, _≤_, _<_}
+use mathlib.Core.Path.{_≡_, refl, sym, ap, _∙_, subst⁻¹}
+use mathlib.Core.Bool.{Bool, true}
 use mathlib.Core.List.{List, [], _∷_}
 use lib.ListN.{length}
 use lib.Dec.{ltb, eqb}
@@ -22,21 +22,37 @@ use Rattle.study.specs.declared.Study.{Study}
 use Rattle.study.specs.declared.Sums.{Sums}
 use Rattle.study.specs.declared.Answer.{Answer}
 use Rattle.study.specs.Sums.{none, plus}
-use Rattle.study.specs.Study.{shareOf, sumOver, studyOf, fresh, hasRoom, roomCheck, addCheck, withClaim, added}
+use Rattle.study.specs.Study.{shareOf, weightedShare, sumOver, studyOf, fresh, hasRoom, roomCheck, addCheck, withClaim, added}
 use Rattle.study.specs.Demand3.{occurrences, IsOrder, nthClaim, after, givenTo, ownRefusal, accepted}
 use Rattle.study.proofs.Algebra.{Shaped, plus-comm}
-use Rattle.study.proofs.SumOver.{All, AnyCount, counts, sums, takenAfter, run-sum, order-length, length-sum}
-use Rattle.study.proofs.Capacity.{Accepted, room, share-shaped}
+use Rattle.study.proofs.SumOver.{All, SameSums, sums, takenAfter, same-length, run-same, order-length}
+use Rattle.study.proofs.Capacity.{Accepted, room, share-shaped, weighted-shaped}
 
 -- adding an accepted claim to the study of some gives the study of one more
 with-built : (w : Window) (rates : List ℕ) (cs : List Claim) (c : Claim) → withClaim (studyOf w rates cs) c rates ≡ studyOf w rates (c ∷ cs)
 unfolding withClaim studyOf sumOver
 with-built w rates cs c = λ i.
-    record { window = w; taken = add-one (length cs) i; sums = plus-comm (sumOver plus none (shareOf w rates) cs) (shareOf w rates c) i }
+    record {
+      window = w;
+      taken = add-one (length cs) i;
+      sums = plus-comm (sumOver plus none (shareOf w rates) cs) (shareOf w rates c) i;
+      weighted = plus-comm (sumOver plus none (weightedShare w rates) cs) (weightedShare w rates c) i;
+    }
 
 pub fresh-built : (w : Window) (rates : List ℕ) → fresh w ≡ studyOf w rates []
 unfolding fresh studyOf sumOver
 fresh-built w rates = refl
+
+-- lists of claims with the same sums have the same study
+pub study-same : (w : Window) (rates : List ℕ) (xs ys : List Claim) → SameSums xs ys → studyOf w rates xs ≡ studyOf w rates ys
+unfolding studyOf
+study-same w rates xs ys same = λ i.
+    record {
+      window = w;
+      taken = same-length xs ys same i;
+      sums = same Sums plus none Shaped sums (shareOf w rates) (share-shaped w rates) i;
+      weighted = same Sums plus none Shaped sums (weightedShare w rates) (weighted-shaped w rates) i;
+    }
 
 -- the number answered to a claim by the study of some accepted claims: the claim's own, or 9 if they are 500,000 or more
 unfoldable pub numberAfter : List ℕ → List Claim → Claim → ℕ
@@ -134,14 +150,7 @@ module _ (w : Window) (rates : List ℕ) (sound : windowSound (w .first .0) (w .
   -- the last study is that of the accepted claims, whatever the order
   pub last-built : (claims : List Claim) (xs : List ℕ) → IsOrder (length claims) xs → length claims ≤ 500000
       → after rates claims (fresh w) xs ≡ studyOf w rates (accepted rates claims)
-  unfolding studyOf
   last-built claims xs o h =
       let l = order-length (length claims) xs o in
       ap (λ (s : Study). after rates claims s xs) (fresh-built w rates) ∙ after-built claims xs [] tt (omega tests)
-      ∙ (λ i.
-      record {
-        window = w;
-        taken =
-            (sym (length-sum (takenAfter rates claims xs [])) ∙ run-sum _+_ 0 AnyCount counts rates (λ c. 1) (λ c. tt) claims xs o ∙ length-sum (accepted rates claims)) i;
-        sums = run-sum plus none Shaped sums rates (shareOf w rates) (share-shaped w rates) claims xs o i;
-      })
+      ∙ study-same w rates (takenAfter rates claims xs []) (accepted rates claims) (run-same rates claims xs o)

@@ -12,7 +12,7 @@ use Rattle.basics.specs.Checks.{_then_}
 use Rattle.basics.specs.Tables.{allAtMost}
 use Rattle.basics.proofs.Tests.{by}
 use Rattle.claim_months.specs.declared.Claim.{Claim}
-use Rattle.claim_months.specs.Claim.{claimCheck}
+use Rattle.claim_months.specs.Claim.{claimCheck, weight}
 use Rattle.claim_months.specs.Exposure.{monthRecords}
 use Rattle.claim_months.specs.Windows.{windowCheck}
 use Rattle.rates.specs.declared.Kind.{Kind}
@@ -22,16 +22,16 @@ use Rattle.rates.proofs.PreparedTables.{same-table}
 use Rattle.study.specs.declared.Study.{Study}
 use Rattle.study.specs.declared.Sums.{Sums}
 use Rattle.study.specs.declared.Answer.{Answer}
-use Rattle.study.specs.Sums.{plus, within}
-use Rattle.study.specs.Study.{recordSums, shareOf, roomCheck, addCheck, withClaim, added}
-use Rattle.study.specs.PreparedAdding.{shareWith, addCheckWith, addedWith, SameAdding, lentStudy, roomFor, addedToLent}
+use Rattle.study.specs.Sums.{plus, times}
+use Rattle.study.specs.Study.{recordSums, shareOf, weightedShare, sumsWithin, roomCheck, addCheck, withClaim, added}
+use Rattle.study.specs.PreparedAdding.{shareWith, addCheckWith, addedWith, SameAdding, lentStudy, lentShapes, roomFor, addedToLent}
 use Rattle.study.proofs.Algebra.{Shaped, each-shaped}
 use Rattle.study.proofs.WithSpan.{answer}
-use Rattle.study.proofs.SpanAdds.{is-shaped}
+use Rattle.study.proofs.SpanAdds.{is-shaped, both-shaped}
 use Rattle.study.proofs.LentSums.{taken-passed, lent-adding}
 
 plain-added : (s : Study) (c : Claim) (rates : List ℕ) → addedWith Plain s c rates ≡ added s c rates
-unfolding addedWith addCheckWith shareWith added addCheck withClaim shareOf checkOf recoveryOf deathOf
+unfolding addedWith addCheckWith shareWith added addCheck withClaim shareOf weightedShare checkOf recoveryOf deathOf
 plain-added s c rates = refl
 
 module _ (s : Study) (c : Claim) (rates : List ℕ) where
@@ -46,9 +46,9 @@ module _ (s : Study) (c : Claim) (rates : List ℕ) where
       ap₂ (λ (r d : ℕ → ℤ). recordSums r d (monthRecords c (s .window .first .0) (s .window .last .0)))
       (fun-ext (λ d. same-table rates .same-recovery (c .cell) d e)) (fun-ext (λ d. same-table rates .same-death (c .cell) d e))
 
-  -- the study with one claim more and a share of it
+  -- the study with one claim more, its share added to both sets
   abbrev one-more : Sums → Study
-  one-more x = record { window = s .window; taken = s .taken + 1; sums = plus (s .sums) x }
+  one-more x = lentStudy (s .window) (s .taken + 1) (plus (s .sums) x) (plus (s .weighted) (times (weight c) x))
 
   prepared-added : addedWith Prepared s c (preparedOf rates) ≡ addedWith Plain s c rates
   unfolding addedWith
@@ -63,11 +63,15 @@ module _ (s : Study) (c : Claim) (rates : List ℕ) where
 pub same-adding : SameAdding
 same-adding = record { plain = plain-added; prepared = λ s c rates. prepared-added s c rates ∙ plain-added s c rates }
 
--- the answer of adding to lent sums, told what is so of them, as that of adding to a study
-module _ (kind : Kind) (s : Study) (c : Claim) (rates : List ℕ) (z : Shaped (s .sums)) (room : Bool) (so : room ≡ within 1 (s .sums)) (n : ℕ) (t : Sums)
-    (p : n ≡ addedToLent room kind rates c s .refused) (q : t ≡ addedToLent room kind rates c s .study .sums) where
+-- the answer of adding to lent sums, told what is so of them, as that of adding to a study: n is answered, and t and u are the two sets afterwards
+module _ (kind : Kind) (s : Study) (c : Claim) (rates : List ℕ) (z : Shaped (s .sums)) (y : Shaped (s .weighted)) (room : Bool)
+    (so : room ≡ sumsWithin (s .sums) (s .weighted)) (n : ℕ) (t u : Sums) (p : n ≡ addedToLent room kind rates c s .refused)
+    (q : t ≡ addedToLent room kind rates c s .study .sums) (r : u ≡ addedToLent room kind rates c s .study .weighted) where
+  shapes : lentShapes (s .sums) (s .weighted) ≡ true
+  shapes = both-shaped (s .sums) (s .weighted) (is-shaped (s .sums) z) (is-shaped (s .weighted) y)
+
   whole : addedToLent room kind rates c s ≡ addedWith kind s c rates
-  whole = lent-adding .told kind rates c s room (is-shaped (s .sums) z) so
+  whole = lent-adding .told kind rates c s room shapes so
 
   number : n ≡ addCheckWith kind s c rates
   unfolding addedWith
@@ -76,33 +80,41 @@ module _ (kind : Kind) (s : Study) (c : Claim) (rates : List ℕ) (z : Shaped (s
   sums-are : t ≡ addedWith kind s c rates .study .sums
   sums-are = q ∙ ap (λ (a : Answer). a .study .sums) whole
 
+  weighted-are : u ≡ addedWith kind s c rates .study .weighted
+  weighted-are = r ∙ ap (λ (a : Answer). a .study .weighted) whole
+
   -- a refusal leaves the sums
-  pub lent-kept : (n ≡ 0 → ⊥) → t ≡ s .sums
+  pub lent-kept : (n ≡ 0 → ⊥) → (t ≡ s .sums) × (u ≡ s .weighted)
   unfolding addedWith
-  lent-kept h = rw (← number, ne-eqb n 0 h) at sums-are
+  lent-kept h = (rw (← number, ne-eqb n 0 h) at sums-are, rw (← number, ne-eqb n 0 h) at weighted-are)
 
   pub lent-refused : (n ≡ 0 → ⊥) → answer n s ≡ addedWith kind s c rates
   unfolding addedWith
   lent-refused h = rw (← number, ne-eqb n 0 h) refl
 
-  pub lent-taken : n ≡ 0 → answer 0 (lentStudy (s .window) (s .taken + 1) t) ≡ addedWith kind s c rates
+  pub lent-taken : n ≡ 0 → answer 0 (lentStudy (s .window) (s .taken + 1) t u) ≡ addedWith kind s c rates
   unfolding addedWith
   lent-taken h =
       let e : addCheckWith kind s c rates ≡ 0 = sym number ∙ h in
-      let u = rw e at sums-are in
-      rw e (ap (λ (x : Sums). answer 0 (lentStudy (s .window) (s .taken + 1) x)) u)
+      let v = rw e at sums-are in
+      let w = rw e at weighted-are in
+      rw e (ap₂ (λ (x x′ : Sums). answer 0 (lentStudy (s .window) (s .taken + 1) x x′)) v w)
 
   -- a claim is taken only where there is room
   pub lent-room : n ≡ 0 → s .taken < 500000
   lent-room h = taken-passed kind s c rates (sym number ∙ h) .few
 
   -- room for one claim more before is room for that many after
-  pub lent-spare : (k : ℕ) → suc k ≤ 100 → allAtMost 4294967295 rates ≡ true → roomFor (suc k) (s .sums) ≡ true → roomFor k t ≡ true
-  lent-spare k h small r = rw sums-are (lent-adding .room-kept kind rates c s k (is-shaped (s .sums) z) h small r)
+  pub lent-spare : (k : ℕ) → suc k ≤ 100 → allAtMost 4294967295 rates ≡ true → roomFor (suc k) (s .sums) (s .weighted) ≡ true → roomFor k t u ≡ true
+  lent-spare k h small f = rw (sums-are, weighted-are) (lent-adding .room-kept kind rates c s k shapes h small f)
 
   -- the lists keep their lengths
-  pub lent-shaped : Shaped t
+  pub lent-shaped : Shaped t × Shaped u
   unfolding addedWith
   lent-shaped =
-      subst⁻¹ Shaped sums-are
-      (by (eqb (addCheckWith kind s c rates) 0) (λ y. Shaped (pick y (one-more s c rates (shareWith kind (s .window) rates c)) s .sums)) (λ q. each-shaped _+ℤ_ _+_ (s .sums) _) (λ q. z))
+      let taken : Study = one-more s c rates (shareWith kind (s .window) rates c) in (
+        subst⁻¹ Shaped sums-are
+            (by (eqb (addCheckWith kind s c rates) 0) (λ b. Shaped (pick b taken s .sums)) (λ _. each-shaped _+ℤ_ _+_ (s .sums) _) (λ _. z)),
+        subst⁻¹ Shaped weighted-are
+            (by (eqb (addCheckWith kind s c rates) 0) (λ b. Shaped (pick b taken s .weighted)) (λ _. each-shaped _+ℤ_ _+_ (s .weighted) _) (λ _. y)),
+      )

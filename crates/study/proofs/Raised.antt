@@ -1,4 +1,5 @@
--- A span's share, band by band: none, and one more. Each group's sum is raised once, by the one band in that group.
+-- A span's share, band by band: none, and one more. Each group's sum is raised once, by the one band in that group; the weighted sum by that band times
+-- the weight.
 -- Assumes nothing.
 use Prim.Native.Nat.{ℕ, zero, suc, _+_, _-_, _≤_, _<_, min}
 use mathlib.Core.Path.{_≡_, refl, sym, ap, ap₂, _∙_}
@@ -8,12 +9,12 @@ use lib.ListN.{length, getD, set, length-set}
 use lib.Seq.{getD-set-same, getD-set-other}
 use native.Mathlib.Nat.{add-zero}
 use lib.Dec.{ltb, eqb}
-use lib.IntN.{ℤ, pos, _+ℤ_, +ℤ-idl, +ℤ-idr}
+use lib.IntN.{ℤ, pos, _+ℤ_, _*ℤ_, +ℤ-idl, +ℤ-idr, *ℤ-zero, *ℤ-one, *ℤ-comm, one}
 use borrow.Author.Tests.{eq-eqb, ne-eqb}
 use Rattle.basics.specs.Pick.{pick}
 use Rattle.basics.specs.Series.{sumTo}
 use Rattle.basics.proofs.Tests.{tests, by}
-use Rattle.basics.proofs.Tables.{table-at}
+use Rattle.basics.proofs.Tables.{table-at, table-same}
 use Rattle.claim_months.specs.declared.Span.{Span}
 use Rattle.claim_months.specs.Span.{spanU, spanB, spanWeighted, bandSum, spanBand, SpanBounds}
 use Rattle.claim_months.proofs.Bands.{band-same, band-none, band-adds}
@@ -22,7 +23,7 @@ use Rattle.rates.proofs.Laws.{group-low, group-high, group-same, group-next, la
 use Rattle.study.specs.Sums.{signedEach}
 use Rattle.study.specs.Study.{groupWeight}
 use Rattle.study.specs.PreparedAdding.{guardedSum}
-use Rattle.study.specs.Private.{monthSums}
+use Rattle.study.specs.Private.{monthSums, timesSums}
 use Rattle.study.proofs.Bounds.{sum-none}
 use Rattle.study.proofs.Algebra.{signed-at, signed-is, signed-length}
 
@@ -30,9 +31,9 @@ use Rattle.study.proofs.Algebra.{signed-at, signed-is, signed-length}
 unfoldable groupMonths : Span → ℕ → ℕ
 groupMonths sp a = min (sp .months - a) (groupLast (sp .first .0 + a) + 1 - (sp .first .0 + a))
 
--- sums to which the first n months of a span were added, each counted with a weight
-abbrev pub Raised : List ℤ → List ℤ → (ℕ → ℤ) → Span → ℕ → Type 0
-Raised old new w sp n = new ≡ signedEach guardedSum old (monthSums w sp n)
+-- sums, guarded at m times their bound, to which the first n months of a span were added, each counted with a rate of its duration, and all of it t times
+abbrev pub Raised : ℕ → ℕ → List ℤ → List ℤ → (ℕ → ℤ) → Span → ℕ → Type 0
+Raised m t old new w sp n = new ≡ signedEach (guardedSum m) old (timesSums t (monthSums w sp n))
 
 -- the months before month n are in earlier groups than that month
 abbrev pub Before : Span → ℕ → Type 0
@@ -41,19 +42,49 @@ Before sp n = n < sp .months → (j : ℕ) → j < n → groupOf (sp .first .0 +
 pub before-none : (sp : Span) (n : ℕ) → n ≡ 0 → Before sp n
 before-none sp n e _ j h = absurd (omega tests)
 
-months-at : (w : ℕ → ℤ) (sp : Span) (n k : ℕ) → k < 5 → getD (monthSums w sp n) k (pos 0) ≡ spanWeighted (groupWeight (k + 1) w) sp n
-unfolding monthSums
-months-at w sp n k h = table-at 5 _ k (pos 0) h
+module _ (t : ℕ) (w : ℕ → ℤ) (sp : Span) where
+  abbrev shares : ℕ → List ℤ
+  shares n = timesSums t (monthSums w sp n)
 
-pub raised-none : (old : List ℤ) (w : ℕ → ℤ) (sp : Span) (n : ℕ) → n ≡ 0 → length old ≡ 5 → Raised old old w sp n
-unfolding spanWeighted sumTo
-raised-none old w sp n e l =
-    rw e
-    (signed-is guardedSum old (monthSums w sp 0) old l (λ k q. sym (ap (guardedSum (getD old k (pos 0))) (months-at w sp 0 k q) ∙ sum-none (getD old k (pos 0)))))
+  shares-at : (n k : ℕ) → k < 5 → getD (shares n) k (pos 0) ≡ pos t *ℤ spanWeighted (groupWeight (k + 1) w) sp n
+  unfolding timesSums monthSums
+  shares-at n k h = table-at 5 _ k (pos 0) h ∙ ap (λ (z : ℤ). pos t *ℤ z) (table-at 5 _ k (pos 0) h)
 
--- a list keeps its length
-pub raised-length : (old l : List ℤ) (w : ℕ → ℤ) (sp : Span) (n : ℕ) → Raised old l w sp n → length l ≡ 5
-raised-length old l w sp n r = ap length r ∙ signed-length guardedSum old (monthSums w sp n)
+  pub raised-none : (m : ℕ) (old : List ℤ) (n : ℕ) → n ≡ 0 → length old ≡ 5 → Raised m t old old w sp n
+  unfolding spanWeighted sumTo
+  raised-none m old n e l =
+      rw e
+      (signed-is (guardedSum m) old (shares 0) old l
+      (λ k q. sym (ap (guardedSum m (getD old k (pos 0))) (shares-at 0 k q ∙ *ℤ-zero (pos t)) ∙ sum-none m (getD old k (pos 0)))))
+
+  -- a list keeps its length
+  pub raised-length : (m : ℕ) (old l : List ℤ) (n : ℕ) → Raised m t old l w sp n → length l ≡ 5
+  raised-length m old l n r = ap length r ∙ signed-length (guardedSum m) old (shares n)
+
+-- some sums, and the weighted ones beside them
+pub record RaisedBoth (weight : ℕ) (old new old₂ new₂ : List ℤ) (w : ℕ → ℤ) (sp : Span) (n : ℕ) : Type 0 where
+  pub plain : Raised 1 1 old new w sp n
+  pub weighted : Raised 200 weight old₂ new₂ w sp n
+
+pub both-none : (weight : ℕ) (old old₂ : List ℤ) (w : ℕ → ℤ) (sp : Span) (n : ℕ) → n ≡ 0 → length old ≡ 5 → length old₂ ≡ 5
+    → RaisedBoth weight old old old₂ old₂ w sp n
+both-none weight old old₂ w sp n e l l₂ =
+    record { plain = raised-none 1 w sp 1 old n e l; weighted = raised-none weight w sp 200 old₂ n e l₂ }
+
+pub both-lengths : {weight : ℕ} {old l old₂ l₂ : List ℤ} {w : ℕ → ℤ} {sp : Span} {n : ℕ} → RaisedBoth weight old l old₂ l₂ w sp n
+    → (length l ≡ 5) × (length l₂ ≡ 5)
+both-lengths r = (raised-length _ _ _ 1 _ _ _ (r .plain), raised-length _ _ _ 200 _ _ _ (r .weighted))
+
+-- once is all of it
+one-times : (x : ℤ) → pos 1 *ℤ x ≡ x
+unfolding one
+one-times x = *ℤ-comm (pos 1) x ∙ *ℤ-one x
+
+pub raised-once : {weight : ℕ} {old l old₂ l₂ : List ℤ} {w : ℕ → ℤ} {sp : Span} {n : ℕ} → RaisedBoth weight old l old₂ l₂ w sp n
+    → l ≡ signedEach (guardedSum 1) old (monthSums w sp n)
+unfolding timesSums monthSums
+raised-once {old = old} {w = w} {sp = sp} {n = n} r =
+    r .plain ∙ ap (signedEach (guardedSum 1) old) (table-same 5 _ _ (λ k h. one-times (getD (monthSums w sp n) k (pos 0)) ∙ table-at 5 _ k (pos 0) h))
 
 -- months without a weight have no sum
 weighted-none : (w : ℕ → ℤ) (sp : Span) → spanWeighted w sp 0 ≡ pos 0
@@ -127,38 +158,44 @@ module _ (w : ℕ → ℤ) (sp : Span) (bounds : SpanBounds sp) (a : ℕ) (h : a
       omega tests)
 
   -- one band more: its group's sum takes it, and no other takes anything
-  module _ (fresh : Before sp a) (old l : List ℤ) (r : Raised old l w sp a) (p : ℕ) (x : ℤ) (hp : p ≡ groupOf first - 1) (hx : x ≡ spanBand w sp a months) where
+  module _ (m t : ℕ) (fresh : Before sp a) (old l : List ℤ) (r : Raised m t old l w sp a) (p : ℕ) (x : ℤ) (hp : p ≡ groupOf first - 1)
+      (hx : x ≡ spanBand w sp a months) where
     abbrev v : ℤ
-    v = guardedSum (getD l p (pos 0)) x
+    v = guardedSum m (getD l p (pos 0)) (pos t *ℤ x)
 
     below : p < 5
     below = omega (tests, group-low first, group-high first)
 
-    entry : (k : ℕ) → k < 5 → getD l k (pos 0) ≡ guardedSum (getD old k (pos 0)) (spanWeighted (groupWeight (k + 1) w) sp a)
+    entry : (k : ℕ) → k < 5 → getD l k (pos 0) ≡ guardedSum m (getD old k (pos 0)) (pos t *ℤ spanWeighted (groupWeight (k + 1) w) sp a)
     entry k q =
-        ap (λ (m : List ℤ). getD m k (pos 0)) r ∙ signed-at guardedSum old (monthSums w sp a) k q ∙ ap (guardedSum (getD old k (pos 0))) (months-at w sp a k q)
+        ap (λ (z : List ℤ). getD z k (pos 0)) r ∙ signed-at (guardedSum m) old (shares t w sp a) k q
+        ∙ ap (guardedSum m (getD old k (pos 0))) (shares-at t w sp a k q)
 
     -- the band's own place, which no month has raised before, and any other
-    value : (k : ℕ) → k < 5 → getD (set l p v) k (pos 0) ≡ guardedSum (getD old k (pos 0)) (spanWeighted (groupWeight (k + 1) w) sp a +ℤ pick (eqb (groupOf first) (k + 1)) x (pos 0))
+    value : (k : ℕ) → k < 5 → getD (set l p v) k (pos 0)
+        ≡ guardedSum m (getD old k (pos 0)) (pos t *ℤ (spanWeighted (groupWeight (k + 1) w) sp a +ℤ pick (eqb (groupOf first) (k + 1)) x (pos 0)))
     value k q =
         let o = getD old k (pos 0) in
         let w₀ = spanWeighted (groupWeight (k + 1) w) sp a in
-        by (eqb (groupOf first) (k + 1)) (λ t. getD (set l p v) k (pos 0) ≡ guardedSum o (w₀ +ℤ pick t x (pos 0)))
+        by (eqb (groupOf first) (k + 1)) (λ y. getD (set l p v) k (pos 0) ≡ guardedSum m o (pos t *ℤ (w₀ +ℤ pick y x (pos 0))))
         (λ y.
         let same : k ≡ p = omega tests in
         let none : w₀ ≡ pos 0 = group-none (k + 1) fresh (omega tests) in
-        let here : getD l k (pos 0) ≡ o = entry k q ∙ ap (guardedSum o) none ∙ sum-none o in
+        let here : getD l k (pos 0) ≡ o = entry k q ∙ ap (guardedSum m o) (ap (λ (z : ℤ). pos t *ℤ z) none ∙ *ℤ-zero (pos t)) ∙ sum-none m o in
         rw none
-        (ap (λ (m : ℕ). getD (set l p v) m (pos 0)) same ∙ getD-set-same l p v (pos 0) (omega (tests, raised-length old l w sp a r, below))
-        ∙ ap (λ (m : ℕ). guardedSum (getD l m (pos 0)) x) (sym same) ∙ ap (λ (z : ℤ). guardedSum z x) here ∙ ap (guardedSum o) (sym (+ℤ-idl x))))
+        (ap (λ (i : ℕ). getD (set l p v) i (pos 0)) same ∙ getD-set-same l p v (pos 0) (omega (tests, raised-length t w sp m old l a r, below))
+        ∙ ap (λ (i : ℕ). guardedSum m (getD l i (pos 0)) (pos t *ℤ x)) (sym same) ∙ ap (λ (z : ℤ). guardedSum m z (pos t *ℤ x)) here
+        ∙ ap (λ (z : ℤ). guardedSum m o (pos t *ℤ z)) (sym (+ℤ-idl x))))
         (λ y.
         let other : k ≢ p = λ (z : k ≡ p). omega (tests, group-low first) in
-        getD-set-other l p k v (pos 0) other ∙ entry k q ∙ ap (guardedSum o) (sym (+ℤ-idr w₀)))
+        getD-set-other l p k v (pos 0) other ∙ entry k q ∙ ap (λ (z : ℤ). guardedSum m o (pos t *ℤ z)) (sym (+ℤ-idr w₀)))
 
-    raised-more : Raised old (set l p v) w sp (a + months)
+    raised-more : Raised m t old (set l p v) w sp (a + months)
     raised-more =
-        signed-is guardedSum old (monthSums w sp (a + months)) (set l p v) (length-set l p v ∙ raised-length old l w sp a r)
-        (λ k q. value k q ∙ ap (guardedSum (getD old k (pos 0))) (rw hx (sym (band-more (k + 1))) ∙ sym (months-at w sp (a + months) k q)))
+        signed-is (guardedSum m) old (shares t w sp (a + months)) (set l p v) (length-set l p v ∙ raised-length t w sp m old l a r)
+        (λ k q.
+        value k q
+        ∙ ap (guardedSum m (getD old k (pos 0))) (rw hx (ap (λ (z : ℤ). pos t *ℤ z) (sym (band-more (k + 1)))) ∙ sym (shares-at t w sp (a + months) k q)))
 
 -- B of a span's first month, and of any later one
 pub B-first : (sp : Span) → sp .before .0 ≡ spanB sp (sp .first .0 - sp .first .0)
@@ -207,13 +244,24 @@ module _ (sp : Span) (bounds : SpanBounds sp) (d e : ℕ) (low : sp .first .0 �
   before-step q = rw next-is (before-more (λ d. pos 1) sp bounds at within q)
 
   -- one band more: its place and its amount
-  module _ (w : ℕ → ℤ) (p b s : ℕ) (hp : p ≡ groupOf d - 1) (hb : b ≡ spanB sp at) (hs : s ≡ 30 - spanU sp (e - sp .first .0)) (fresh : Before sp at)
-      (old l l′ : List ℤ) (r : Raised old l w sp at) (x : ℤ) (hx : x ≡ bandSum w d (e - d + 1) b s) (is : l′ ≡ set l p (guardedSum (getD l p (pos 0)) x)) where
+  module _ (w : ℕ → ℤ) (p b s : ℕ) (hp : p ≡ groupOf d - 1) (hb : b ≡ spanB sp at) (hs : s ≡ 30 - spanU sp (e - sp .first .0)) (fresh : Before sp at) (x : ℤ)
+      (hx : x ≡ bandSum w d (e - d + 1) b s) where
     amount : x ≡ spanBand w sp at (groupMonths sp at)
     unfolding spanBand
     amount =
         let last : e - sp .first .0 ≡ at + (groupMonths sp at - 1) = omega (tests, length-is, end-low) in
         hx ∙ (λ i. bandSum w (sym at-is i) (length-is i) (hb i) ((hs ∙ ap (λ (m : ℕ). 30 - spanU sp m) last) i))
 
-    pub raised-step : Raised old l′ w sp (e + 1 - sp .first .0)
-    raised-step = rw (is, next-is) (raised-more w sp bounds at within fresh old l r p x (hp ∙ ap (λ (m : ℕ). groupOf m - 1) (sym at-is)) amount)
+    raised-step : (m t : ℕ) (old l l′ : List ℤ) → Raised m t old l w sp at
+        → l′ ≡ set l p (guardedSum m (getD l p (pos 0)) (pos t *ℤ x)) → Raised m t old l′ w sp (e + 1 - sp .first .0)
+    raised-step m t old l l′ r is =
+        rw (is, next-is) (raised-more w sp bounds at within m t fresh old l r p x (hp ∙ ap (λ (n : ℕ). groupOf n - 1) (sym at-is)) amount)
+
+    pub both-step : (weight : ℕ) (old l l′ old₂ l₂ l₂′ : List ℤ) → RaisedBoth weight old l old₂ l₂ w sp at
+        → (l′ ≡ set l p (guardedSum 1 (getD l p (pos 0)) x)) × (l₂′ ≡ set l₂ p (guardedSum 200 (getD l₂ p (pos 0)) (pos weight *ℤ x)))
+        → RaisedBoth weight old l′ old₂ l₂′ w sp (e + 1 - sp .first .0)
+    both-step weight old l l′ old₂ l₂ l₂′ r is =
+        record {
+          plain = raised-step 1 1 old l l′ (r .plain) (is .0 ∙ ap (λ (z : ℤ). set l p (guardedSum 1 (getD l p (pos 0)) z)) (sym (one-times x)));
+          weighted = raised-step 200 weight old₂ l₂ l₂′ (r .weighted) (is .1);
+        }

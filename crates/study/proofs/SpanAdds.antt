@@ -14,16 +14,17 @@ use Rattle.basics.proofs.Checks.{then-next, then-fails}
 use Rattle.claim_months.specs.declared.Claim.{Claim}
 use Rattle.claim_months.specs.declared.Span.{Span}
 use Rattle.claim_months.specs.declared.MaybeSpan.the-variants.{Spanned, Refused}
+use Rattle.claim_months.specs.Claim.{weight}
 use Rattle.claim_months.specs.Span.{spanIn}
 use Rattle.rates.specs.declared.Kind.{Kind}
 use Rattle.rates.specs.Prepared.{checkOf, recoveryOf, deathOf}
 use Rattle.study.specs.declared.Study.{Study}
 use Rattle.study.specs.declared.Sums.{Sums}
-use Rattle.study.specs.Sums.{signedEach, countEach, each}
-use Rattle.study.specs.PreparedAdding.{lentShape, guardedSum, guardedCount, addedToLent}
-use Rattle.study.specs.Private.{monthSums, spanClosings, spanShare, spanNumber, spanSums}
+use Rattle.study.specs.Sums.{signedEach, countEach, each, times}
+use Rattle.study.specs.PreparedAdding.{lentShape, lentShapes, guardedSum, guardedCount, guardedPlus, addedToLent}
+use Rattle.study.specs.Private.{monthSums, timesSums, timesCounts, spanClosings, spanShare, spanNumber, spanSums, spanWeightedSums}
 use Rattle.study.proofs.Algebra.{Shaped}
-use Rattle.study.proofs.WithSpan.{spanned-number, spanned-sums, refused-number, refused-sums}
+use Rattle.study.proofs.WithSpan.{spanned-number, spanned-sums, spanned-weighted, refused-number, refused-study}
 
 -- lists with a study's lengths
 pub shaped : (s : Sums) → lentShape s ≡ true → Shaped s
@@ -42,16 +43,39 @@ shaped s h =
       deaths = eqb-true (length (s .deaths)) 5 (and-right (a && b && c) d h);
     }
 
-module _ (taken : ℕ) (room : Bool) (s : Sums) (kind : Kind) (rates : List ℕ) (cell : ℕ) (sp : Span) where
+pub not-shaped : (s : Sums) → (Shaped s → ⊥) → lentShape s ≡ false
+not-shaped s h = by (lentShape s) (λ t. t ≡ false) (λ e. absurd (h (shaped s e))) (λ e. refl)
+
+-- where three of the lists have their lengths, the fourth decides
+pub deaths-decide : (s : Sums) → length (s .thirtieths) ≡ 5 → length (s .closings) ≡ 25 → length (s .recoveries) ≡ 5 → eqb (length (s .deaths)) 5 ≡ lentShape s
+unfolding lentShape
+deaths-decide s t c r = rw (eq-eqb _ _ t, eq-eqb _ _ c, eq-eqb _ _ r) refl
+
+pub is-shaped : (s : Sums) → Shaped s → lentShape s ≡ true
+is-shaped s z = sym (deaths-decide s (z .thirtieths) (z .closings) (z .recoveries)) ∙ eq-eqb _ _ (z .deaths)
+
+pub shapes : (a b : Sums) → lentShapes a b ≡ true → Shaped a × Shaped b
+unfolding lentShapes
+shapes a b h = (shaped a (and-left (lentShape a) (lentShape b) h), shaped b (and-right (lentShape a) (lentShape b) h))
+
+pub both-shaped : (a b : Sums) → lentShape a ≡ true → lentShape b ≡ true → lentShapes a b ≡ true
+unfolding lentShapes
+both-shaped a b p q = rw (p, q)
+
+-- adding a span to the sums of a study that has taken some claims, told whether there is room
+module _ (taken : ℕ) (room : Bool) (s w : Sums) (kind : Kind) (rates : List ℕ) (cell : ℕ) (sp : Span) (weight : ℕ) where
   abbrev number : ℕ
   number = spanNumber taken room kind rates cell
 
-  -- a refusal leaves the sums
-  left : (n : ℕ) → n ≡ number → (n ≡ 0 → ⊥) → (n ≡ number) × (s ≡ spanSums taken room s kind rates cell sp)
-  unfolding spanSums
-  left n e h = (e, rw (ne-eqb number 0 (λ z. h (e ∙ z))))
+  abbrev SpanAs : ℕ → Sums → Sums → Type 0
+  SpanAs n t u = (n ≡ number) × ((t ≡ spanSums taken room s kind rates cell sp) × (u ≡ spanWeightedSums taken room w kind rates cell sp weight))
 
-  pub rates-refused : (n : ℕ) → n ≡ checkOf kind rates cell → (n ≡ 0 → ⊥) → (n ≡ number) × (s ≡ spanSums taken room s kind rates cell sp)
+  -- a refusal leaves the sums
+  left : (n : ℕ) → n ≡ number → (n ≡ 0 → ⊥) → SpanAs n s w
+  unfolding spanSums spanWeightedSums
+  left n e h = let q = ne-eqb number 0 (λ z. h (e ∙ z)) in (e, (rw q, rw q))
+
+  pub rates-refused : (n : ℕ) → n ≡ checkOf kind rates cell → (n ≡ 0 → ⊥) → SpanAs n s w
   unfolding spanNumber
   rates-refused n e h = left n (e ∙ sym (then-fails (checkOf kind rates cell) _ (λ z. h (e ∙ z)))) h
 
@@ -61,46 +85,70 @@ module _ (taken : ℕ) (room : Bool) (s : Sums) (kind : Kind) (rates : List ℕ)
     unfolding spanNumber
     last t e = then-next (checkOf kind rates cell) _ passed ∙ ap (λ (t : Bool). check t 9) e
 
-    span-full : (ltb taken 500000 && room) ≡ false → (9 ≡ number) × (s ≡ spanSums taken room s kind rates cell sp)
+    span-full : (ltb taken 500000 && room) ≡ false → SpanAs 9 s w
     span-full f = left 9 (sym (last false f)) (λ z. omega tests)
 
-    pub many-taken : 500000 ≤ taken → (9 ≡ number) × (s ≡ spanSums taken room s kind rates cell sp)
+    pub many-taken : 500000 ≤ taken → SpanAs 9 s w
     many-taken h = span-full (rw (le-ltb taken 500000 h))
 
-    pub no-room : room ≡ false → (9 ≡ number) × (s ≡ spanSums taken room s kind rates cell sp)
+    pub no-room : room ≡ false → SpanAs 9 s w
     no-room e = span-full (ap (λ (t : Bool). ltb taken 500000 && t) e ∙ and-false (ltb taken 500000))
 
-    pub span-taken : taken < 500000 → room ≡ true → (t : Sums) → t .thirtieths ≡ signedEach guardedSum (s .thirtieths) (monthSums (λ d. pos 1) sp (sp .months))
-        → t .closings ≡ countEach guardedCount (s .closings) (spanClosings sp) → t .recoveries ≡ signedEach guardedSum (s .recoveries) (monthSums (recoveryOf kind rates cell) sp (sp .months))
-        → t .deaths ≡ signedEach guardedSum (s .deaths) (monthSums (deathOf kind rates cell) sp (sp .months)) → (0 ≡ number) × (t ≡ spanSums taken room s kind rates cell sp)
-    unfolding spanSums spanShare each
-    span-taken h e t a b c d =
+    pub span-taken : taken < 500000 → room ≡ true → (t u : Sums) → t ≡ guardedPlus 1 s (spanShare kind rates cell sp)
+        → u ≡ guardedPlus 200 w (times weight (spanShare kind rates cell sp)) → SpanAs 0 t u
+    unfolding spanSums spanWeightedSums
+    span-taken h e t u a b =
         let n : number ≡ 0 = last true (rw (lt-ltb taken 500000 h, e)) in
-        (sym n, rw n (λ i. record { thirtieths = a i; closings = b i; recoveries = c i; deaths = d i }))
+        (sym n, (rw n a, rw n b))
 
-pub not-shaped : (s : Sums) → (Shaped s → ⊥) → lentShape s ≡ false
-not-shaped s h = by (lentShape s) (λ t. t ≡ false) (λ e. absurd (h (shaped s e))) (λ e. refl)
+-- what the calls for months and closing leave in the lists of a set is the share added
+module _ (kind : Kind) (rates : List ℕ) (cell : ℕ) (sp : Span) (s t : Sums) where
+  pub share-added : t .thirtieths ≡ signedEach (guardedSum 1) (s .thirtieths) (monthSums (λ d. pos 1) sp (sp .months))
+      → t .closings ≡ countEach (guardedCount 1) (s .closings) (spanClosings sp)
+      → t .recoveries ≡ signedEach (guardedSum 1) (s .recoveries) (monthSums (recoveryOf kind rates cell) sp (sp .months))
+      → t .deaths ≡ signedEach (guardedSum 1) (s .deaths) (monthSums (deathOf kind rates cell) sp (sp .months))
+      → t ≡ guardedPlus 1 s (spanShare kind rates cell sp)
+  unfolding guardedPlus each spanShare
+  share-added a b c d = λ i. record { thirtieths = a i; closings = b i; recoveries = c i; deaths = d i }
 
-pub is-shaped : (s : Sums) → Shaped s → lentShape s ≡ true
-unfolding lentShape
-is-shaped s z = simp (eq-eqb _ _ (z .thirtieths), eq-eqb _ _ (z .closings), eq-eqb _ _ (z .recoveries), eq-eqb _ _ (z .deaths))
+  pub times-added : (n : ℕ) → t .thirtieths ≡ signedEach (guardedSum 200) (s .thirtieths) (timesSums n (monthSums (λ d. pos 1) sp (sp .months)))
+      → t .closings ≡ countEach (guardedCount 200) (s .closings) (timesCounts n (spanClosings sp))
+      → t .recoveries ≡ signedEach (guardedSum 200) (s .recoveries) (timesSums n (monthSums (recoveryOf kind rates cell) sp (sp .months)))
+      → t .deaths ≡ signedEach (guardedSum 200) (s .deaths) (timesSums n (monthSums (deathOf kind rates cell) sp (sp .months)))
+      → t ≡ guardedPlus 200 s (times n (spanShare kind rates cell sp))
+  unfolding guardedPlus each spanShare timesSums timesCounts signedEach countEach
+  times-added n a b c d = λ i. record { thirtieths = a i; closings = b i; recoveries = c i; deaths = d i }
 
 -- adding a claim to lent sums: a list of another length, a claim's span, and a claim without one
 module _ (room : Bool) (kind : Kind) (rates : List ℕ) (c : Claim) (s : Study) where
-  abbrev AddedAs : ℕ → Sums → Type 0
-  AddedAs n t = (n ≡ addedToLent room kind rates c s .refused) × (t ≡ addedToLent room kind rates c s .study .sums)
+  abbrev AddedAs : ℕ → Sums → Sums → Type 0
+  AddedAs n t u =
+      (n ≡ addedToLent room kind rates c s .refused)
+      × ((t ≡ addedToLent room kind rates c s .study .sums) × (u ≡ addedToLent room kind rates c s .study .weighted))
 
-  pub other-length : (Shaped (s .sums) → ⊥) → AddedAs 255 (s .sums)
+  pub other-length : lentShapes (s .sums) (s .weighted) ≡ false → AddedAs 255 (s .sums) (s .weighted)
   unfolding addedToLent
-  other-length h = rw (not-shaped (s .sums) h) (refl, refl)
+  other-length h = rw h (refl, (refl, refl))
 
-  module _ (z : Shaped (s .sums)) where
-    long : lentShape (s .sums) ≡ true
-    long = is-shaped (s .sums) z
+  module _ (z : lentShapes (s .sums) (s .weighted) ≡ true) where
+    pub with-span : (sp : Span) → Spanned sp ≡ spanIn c (s .window .first .0) (s .window .last .0) → (k n : ℕ) (t u : Sums) → k ≡ weight c
+        → n ≡ spanNumber (s .taken) room kind rates (c .cell) → t ≡ spanSums (s .taken) room (s .sums) kind rates (c .cell) sp
+        → u ≡ spanWeightedSums (s .taken) room (s .weighted) kind rates (c .cell) sp k → AddedAs n t u
+    with-span sp m k n t u e p q r =
+        let w = r ∙ ap (spanWeightedSums (s .taken) room (s .weighted) kind rates (c .cell) sp) e ∙ sym (spanned-weighted room kind s c rates z sp m) in
+        (p ∙ sym (spanned-number room kind s c rates z sp m), (q ∙ sym (spanned-sums room kind s c rates z sp m), w))
 
-    pub with-span : (sp : Span) → Spanned sp ≡ spanIn c (s .window .first .0) (s .window .last .0) → (n : ℕ) (t : Sums)
-        → n ≡ spanNumber (s .taken) room kind rates (c .cell) → t ≡ spanSums (s .taken) room (s .sums) kind rates (c .cell) sp → AddedAs n t
-    with-span sp m n t p q = (p ∙ sym (spanned-number room kind s c rates long sp m), q ∙ sym (spanned-sums room kind s c rates long sp m))
+    pub without : (n : ℕ) → Refused n ≡ spanIn c (s .window .first .0) (s .window .last .0) → AddedAs n (s .sums) (s .weighted)
+    without n m =
+        let k = sym (refused-study room kind s c rates z n m) in
+        (sym (refused-number room kind s c rates z n m), (ap (λ (x : Study). x .sums) k, ap (λ (x : Study). x .weighted) k))
 
-    pub without : (n : ℕ) → Refused n ≡ spanIn c (s .window .first .0) (s .window .last .0) → AddedAs n (s .sums)
-    without n m = (sym (refused-number room kind s c rates long n m), sym (refused-sums room kind s c rates long n m))
+-- a set without a study's lengths
+module _ (a b : Sums) where
+  pub first-other : lentShape a ≡ false → lentShapes a b ≡ false
+  unfolding lentShapes
+  first-other h = rw h
+
+  pub second-other : lentShape b ≡ false → lentShapes a b ≡ false
+  unfolding lentShapes
+  second-other h = rw h (and-false (lentShape a))

@@ -1,16 +1,16 @@
--- Sums over claims, in any commutative sum: they depend on no order, and a sum over parts of a sum over claims may be taken either way.
+-- Sums over claims, in any commutative sum: they depend on no order, those over two lists add up, and a sum over parts of a sum over claims may be
+-- taken either way.
 -- Assumes nothing.
 use Prim.Native.Nat.{ℕ, zero, suc, _+_, _≤_, _<_}
 use mathlib.Core.Path.{_≡_, refl, sym, ap, ap₂, _∙_}
-use mathlib.Core.Bool.{Bool, true, false, _&&_}
-use mathlib.Core.List.{List, [], _∷_}
-use lib.ListN.{length, getD}
-use lib.Dec.{leb, ltb, eqb}
+use mathlib.Core.List.{List, [], _∷_, _++_}
+use lib.ListN.{length}
+use lib.Dec.{ltb, eqb}
 use lib.IntN.{_+ℤ_}
 use native.Mathlib.Nat.{add-assoc, add-comm, zero-add}
 use borrow.Author.Tests.{eq-eqb, ne-eqb, lt-ltb, le-ltb}
 use Rattle.basics.specs.Pick.{pick}
-use Rattle.basics.proofs.Tests.{tests, by, pick-is, is-pick}
+use Rattle.basics.proofs.Tests.{tests, by}
 use Rattle.claim_months.specs.declared.Claim.{Claim}
 use Rattle.claim_months.specs.Windows.{total}
 use Rattle.study.specs.Sums.{none, plus}
@@ -153,6 +153,12 @@ module _ {A : Type 0} (add : A → A → A) (zero-sum : A) (Good : A → Type 0)
     good-sum [] = laws .good-none
     good-sum (c ∷ cs) = laws .good-add (f c) (sumOver add zero-sum f cs)
 
+    -- the sum over one list after another
+    pub sum-append : (xs ys : List Claim) → sumOver add zero-sum f (xs ++ ys) ≡ add (sumOver add zero-sum f xs) (sumOver add zero-sum f ys)
+    unfolding sumOver
+    sum-append [] ys = sym (laws .left (sumOver add zero-sum f ys) (good-sum ys))
+    sum-append (x ∷ xs) ys = ap (add (f x)) (sum-append xs ys) ∙ sym (laws .assoc (f x) (sumOver add zero-sum f xs) (sumOver add zero-sum f ys))
+
     -- the sum over the accepted claims is the sum over the list's places
     accepted-sum : (cs : List Claim) → sumOver add zero-sum f (accepted rates cs) ≡ sumBelow (λ i. ownShare rates f (nthClaim cs i)) (length cs)
     unfolding sumOver accepted sumBelow nthClaim
@@ -229,3 +235,16 @@ pub length-sum : (cs : List Claim) → sumOver _+_ 0 (λ c. 1) cs ≡ length cs
 unfolding sumOver
 length-sum [] = refl
 length-sum (c ∷ cs) = let i = length-sum cs in omega tests
+
+-- two lists over which every commutative sum is the same; so are their lengths
+abbrev pub SameSums : List Claim → List Claim → Type 1
+SameSums xs ys =
+    (A : Type 0) (add : A → A → A) (zero-sum : A) (Good : A → Type 0) → Commutes add zero-sum Good → (f : Claim → A) → ((c : Claim) → Good (f c))
+    → sumOver add zero-sum f xs ≡ sumOver add zero-sum f ys
+
+pub same-length : (xs ys : List Claim) → SameSums xs ys → length xs ≡ length ys
+same-length xs ys same = sym (length-sum xs) ∙ same ℕ _+_ 0 AnyCount counts (λ c. 1) (λ c. tt) ∙ length-sum ys
+
+-- the claims that a run has taken, whatever its order, and the accepted claims
+pub run-same : (rates : List ℕ) (cs : List Claim) (xs : List ℕ) → IsOrder (length cs) xs → SameSums (takenAfter rates cs xs []) (accepted rates cs)
+run-same rates cs xs h A add zero-sum Good laws f good = run-sum add zero-sum Good laws rates f good cs xs h

@@ -13,7 +13,7 @@ use Rattle.basics.specs.Checks.{_then_}
 use Rattle.calendar.specs.declared.Date.{Date}
 use Rattle.claim_months.specs.declared.Claim.{Claim}
 use Rattle.claim_months.specs.declared.Window.{Window}
-use Rattle.claim_months.specs.Claim.{claimCheck}
+use Rattle.claim_months.specs.Claim.{claimCheck, weight}
 use Rattle.claim_months.specs.Exposure.{closedIn}
 use Rattle.claim_months.specs.Windows.{between, Parts, total, EveryPart, NoPart, ExactlyOnePart}
 use Rattle.rates.specs.Rates.{rateCheck}
@@ -49,7 +49,7 @@ unfoldable pub nthClaim : List Claim → ℕ → Claim
 nthClaim claims i =
     let no-date : Date = record { year = 0; month = 0; day = 0 } in
     getD claims i
-    (record { number = 0; disability = no-date; bcd = no-date; termination = no-date; maximum = no-date; status = 0; code = 0; cell = 0 })
+    (record { number = 0; disability = no-date; bcd = no-date; termination = no-date; maximum = no-date; status = 0; code = 0; cell = 0; benefit = 0 })
 
 -- the study after the additions of an order: each gets the study that the one before it returned, refused or not, and the same rates
 unfoldable pub after : List ℕ → List Claim → Study → List ℕ → Study
@@ -72,19 +72,23 @@ givenAt rates claims i r = givenTo rates claims i (opened (r .first) (r .last) .
 unfoldable pub answerAt : List ℕ → List Claim → ℕ → StudyRun → ℕ
 answerAt rates claims i r = added (givenAt rates claims i r) (nthClaim claims i) rates .refused
 
--- the claim at place i is counted as closed in a run: its addition there makes one closing count of one group higher by one, and no other
+-- the claim at place i is counted as closed in a run: its addition there makes one closing count of one group higher by one, and no other, and
+-- the same place of the weighted set higher by its weight, and no other
 abbrev pub CountedClosed : List ℕ → List Claim → ℕ → StudyRun → Type 0
 CountedClosed rates claims i r =
     (k : ℕ) × (k < 25)
     × (added (givenAt rates claims i r) (nthClaim claims i) rates .study .sums .closings
     ≡ set (givenAt rates claims i r .sums .closings) k (getD (givenAt rates claims i r .sums .closings) k 0 + 1))
+    × (added (givenAt rates claims i r) (nthClaim claims i) rates .study .weighted .closings
+    ≡ set (givenAt rates claims i r .weighted .closings) k (getD (givenAt rates claims i r .weighted .closings) k 0 + weight (nthClaim claims i)))
 
--- its addition there leaves all closing counts as they were
+-- its addition there leaves all closing counts, and the weighted ones, as they were
 abbrev pub LeavesClosings : List ℕ → List Claim → ℕ → StudyRun → Type 0
 LeavesClosings rates claims i r =
-    added (givenAt rates claims i r) (nthClaim claims i) rates .study .sums .closings ≡ givenAt rates claims i r .sums .closings
+    (added (givenAt rates claims i r) (nthClaim claims i) rates .study .sums .closings ≡ givenAt rates claims i r .sums .closings)
+    × (added (givenAt rates claims i r) (nthClaim claims i) rates .study .weighted .closings ≡ givenAt rates claims i r .weighted .closings)
 
--- the number of the first of the checks 2 to 8 that a claim fails with the rates, or 0: a claim with 0 is accepted
+-- the number of the first of the checks 2 to 8 and 16 that a claim fails with the rates, or 0: a claim with 0 is accepted
 unfoldable pub ownRefusal : List ℕ → Claim → ℕ
 ownRefusal rates c = claimCheck c then rateCheck rates (c .cell)
 
@@ -100,8 +104,9 @@ closesIn rates c r = eqb (ownRefusal rates c) 0 && closedIn c (runWindow r .firs
 -- What demand 3 says of rates, a list of claims, the run over the undivided window, and the runs over its parts
 pub record AddsUp (rates : List ℕ) (claims : List Claim) (whole part : StudyRun) (parts : List StudyRun) : Type 0 where
   -- 1. The sums of the parts' last studies total exactly those of the undivided window's: in every group the exposure, the closing counts
-  -- under each category, the expected recoveries and the expected deaths
+  -- under each category, the expected recoveries and the expected deaths; and so do the weighted sums
   pub sums : total plus (λ r. lastStudy rates claims r .sums) part parts ≡ lastStudy rates claims whole .sums
+  pub weighted : total plus (λ r. lastStudy rates claims r .weighted) part parts ≡ lastStudy rates claims whole .weighted
   -- 2. Every place gets the same answer in each run: the number that its claim and the rates have by themselves
   pub answer : (i : ℕ) → i < length claims → answerAt rates claims i whole ≡ ownRefusal rates (nthClaim claims i)
   pub same-answer : (i : ℕ) → i < length claims → EveryPart (λ r. answerAt rates claims i r ≡ answerAt rates claims i whole) part parts

@@ -2,6 +2,7 @@
 pub mod Sums
 pub mod Study
 pub mod PreparedAdding
+pub mod Weighting
 pub mod DefinitionChange
 pub mod Demand3
 pub mod Private

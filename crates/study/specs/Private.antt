@@ -3,7 +3,8 @@ use Prim.Native.Nat.{ℕ, _+_, _-_, _*_, _/_, _%_}
 use mathlib.Core.Bool.{Bool, _&&_}
 use mathlib.Core.List.{List}
 use lib.Dec.{ltb, eqb}
-use lib.IntN.{ℤ, pos}
+use lib.ListN.{getD}
+use lib.IntN.{ℤ, pos, _*ℤ_}
 use Rattle.basics.specs.Pick.{pick}
 use Rattle.basics.specs.Checks.{check, _then_, refuse-full}
 use Rattle.basics.specs.Tables.{table, allWithin, allAtMost}
@@ -12,13 +13,20 @@ use Rattle.claim_months.specs.Span.{spanWeighted, spanClosing}
 use Rattle.rates.specs.declared.Kind.{Kind}
 use Rattle.rates.specs.Prepared.{checkOf, recoveryOf, deathOf}
 use Rattle.study.specs.declared.Sums.{Sums}
-use Rattle.study.specs.Sums.{each}
+use Rattle.study.specs.Sums.{times}
 use Rattle.study.specs.Study.{inGroup, groupWeight}
-use Rattle.study.specs.PreparedAdding.{guardedSum, guardedCount}
+use Rattle.study.specs.PreparedAdding.{guardedPlus}
 
 -- per group, the first n months of a span, weighted by their durations
 unfoldable pub monthSums : (ℕ → ℤ) → Span → ℕ → List ℤ
 monthSums w sp n = table 5 (λ k. spanWeighted (groupWeight (k + 1) w) sp n)
+
+-- n times some sums per group, and n times some counts
+unfoldable pub timesSums : ℕ → List ℤ → List ℤ
+timesSums n xs = table 5 (λ k. pos n *ℤ getD xs k (pos 0))
+
+unfoldable pub timesCounts : ℕ → List ℕ → List ℕ
+timesCounts n xs = table 25 (λ k. n * getD xs k 0)
 
 -- the closing counts of a span: its closing month counts one, under its category
 unfoldable pub spanClosings : Span → List ℕ
@@ -41,7 +49,12 @@ spanNumber taken room kind rates cell = checkOf kind rates cell then check (ltb 
 
 unfoldable pub spanSums : ℕ → Bool → Sums → Kind → List ℕ → ℕ → Span → Sums
 spanSums taken room s kind rates cell sp =
-    pick (eqb (spanNumber taken room kind rates cell) 0) (each guardedSum guardedCount s (spanShare kind rates cell sp)) s
+    pick (eqb (spanNumber taken room kind rates cell) 0) (guardedPlus 1 s (spanShare kind rates cell sp)) s
+
+-- and the weighted ones
+unfoldable pub spanWeightedSums : ℕ → Bool → Sums → Kind → List ℕ → ℕ → Span → ℕ → Sums
+spanWeightedSums taken room s kind rates cell sp weight =
+    pick (eqb (spanNumber taken room kind rates cell) 0) (guardedPlus 200 s (times weight (spanShare kind rates cell sp))) s
 
 -- whether sums are within bounds, one for thirtieths, one for expected sums and one for counts
 unfoldable pub bounded : ℕ → ℕ → ℕ → Sums → Bool

@@ -12,14 +12,14 @@ use Rattle.claim_months.specs.declared.Claim.{Claim}
 use Rattle.claim_months.specs.declared.Window.{Window}
 use Rattle.claim_months.specs.declared.MaybeWindow.{MaybeWindow}
 use Rattle.claim_months.specs.declared.MaybeWindow.the-variants.{Known, Refused}
-use Rattle.claim_months.specs.Claim.{claimCheck}
+use Rattle.claim_months.specs.Claim.{claimCheck, weight}
 use Rattle.claim_months.specs.Exposure.{MonthRecord, monthRecords, weighted, closings}
 use Rattle.claim_months.specs.Windows.{windowCheck, windowIn}
 use Rattle.rates.specs.Rates.{recoveryRate, deathRate, rateCheck, groupOf}
 use Rattle.study.specs.declared.Sums.{Sums}
 use Rattle.study.specs.declared.Study.{Study}
 use Rattle.study.specs.declared.Answer.{Answer}
-use Rattle.study.specs.Sums.{perGroup, perClosing, none, plus, within}
+use Rattle.study.specs.Sums.{perGroup, perClosing, none, plus, times, within}
 
 -- 1 for a duration in group g, 0 for any other
 unfoldable pub inGroup : ℕ → ℕ → ℕ
@@ -56,6 +56,10 @@ unfoldable pub shareOf : Window → List ℕ → Claim → Sums
 shareOf w rates c =
     recordSums (λ d. pos (recoveryRate rates (c .cell) d)) (λ d. pos (deathRate rates (c .cell) d)) (monthRecords c (w .first .0) (w .last .0))
 
+-- its share of the weighted set: its share multiplied by its benefit (document 02, No. 7)
+unfoldable pub weightedShare : Window → List ℕ → Claim → Sums
+weightedShare w rates c = times (weight c) (shareOf w rates c)
+
 -- the sum over claims
 unfoldable pub sumOver : {A : Type 0} → (A → A → A) → A → (Claim → A) → List Claim → A
 sumOver add zero f [] = zero
@@ -63,11 +67,17 @@ sumOver add zero f (c ∷ cs) = add (f c) (sumOver add zero f cs)
 
 -- The study of a window and a list of accepted claims
 unfoldable pub studyOf : Window → List ℕ → List Claim → Study
-studyOf w rates claims = record { window = w; taken = length claims; sums = sumOver plus none (shareOf w rates) claims }
+studyOf w rates claims =
+    record {
+      window = w;
+      taken = length claims;
+      sums = sumOver plus none (shareOf w rates) claims;
+      weighted = sumOver plus none (weightedShare w rates) claims;
+    }
 
--- a study with no claims taken and zero sums
+-- a study with no claims taken and zero sums in both sets
 unfoldable pub fresh : Window → Study
-fresh w = record { window = w; taken = 0; sums = none }
+fresh w = record { window = w; taken = 0; sums = none; weighted = none }
 
 -- the window 1950-01-01 alone
 abbrev pub firstDayAlone : Window
@@ -81,14 +91,18 @@ openedWith (Refused n) = record { refused = n; study = fresh firstDayAlone }
 unfoldable pub opened : Date → Date → Answer
 opened b e = openedWith (windowIn b e)
 
--- 9, full: 500,000 claims or more taken, or a sum handed in beyond ±2.7 × 10¹⁰ thirtieths, ±2.7 × 10¹⁶ expected, or a count over 500,000
+-- 9, full: 500,000 claims or more taken, or a sum handed in beyond ±2.7 × 10¹⁰ thirtieths, ±2.7 × 10¹⁶ expected, or a count over 500,000;
+-- the bounds of the weighted set are 200 times those
+unfoldable pub sumsWithin : Sums → Sums → Bool
+sumsWithin sums weighted = within 1 sums && within 200 weighted
+
 unfoldable pub hasRoom : Study → Bool
-hasRoom s = ltb (s .taken) 500000 && within 1 (s .sums)
+hasRoom s = ltb (s .taken) 500000 && sumsWithin (s .sums) (s .weighted)
 
 unfoldable pub roomCheck : Study → ℕ
 roomCheck s = check (hasRoom s) refuse-full
 
--- the number of the first of the checks 1 to 9 that fails, or 0
+-- the number of the first of the checks 1 to 9 and 16 that fails, or 0
 unfoldable pub addCheck : Study → Claim → List ℕ → ℕ
 addCheck s c rates =
     windowCheck (s .window .first .0) (s .window .last .0)
@@ -96,10 +110,15 @@ addCheck s c rates =
     then rateCheck rates (c .cell)
     then roomCheck s
 
--- a study with one accepted claim more: counted as taken, and the claim's share added to the sums
+-- a study with one accepted claim more: counted as taken, and the claim's share added to the sums of both sets
 unfoldable pub withClaim : Study → Claim → List ℕ → Study
 withClaim s c rates =
-    record { window = s .window; taken = s .taken + 1; sums = plus (s .sums) (shareOf (s .window) rates c) }
+    record {
+      window = s .window;
+      taken = s .taken + 1;
+      sums = plus (s .sums) (shareOf (s .window) rates c);
+      weighted = plus (s .weighted) (weightedShare (s .window) rates c);
+    }
 
 -- Adding takes study, claim and rates. A refusal gives its number and the study as given
 unfoldable pub added : Study → Claim → List ℕ → Answer

@@ -1,11 +1,12 @@
 // The exposure study (document 01: Study): opening it and adding a claim.
 ghost use mathlib.Core.Path.{_≡_};
 ghost use mathlib.Core.Bool.{true};
+ghost use Prim.Native.Nat.{_≤_};
 ghost use denote.Ref.{now};
 ghost use Rattle.claim_months.specs.Span.{SpanBounds};
 ghost use Rattle.study.specs.Study.{fresh, opened, added};
-ghost use Rattle.study.specs.PreparedAdding.{lentSums, lentStudy, lentShape, addedToLent};
-ghost use Rattle.study.specs.Private.{spanNumber, spanSums};
+ghost use Rattle.study.specs.PreparedAdding.{lentSums, lentStudy, lentShape, lentShapes, addedToLent};
+ghost use Rattle.study.specs.Private.{spanNumber, spanSums, spanWeightedSums};
 
 mod group_figures;
 pub mod room;
@@ -20,6 +21,7 @@ use claim_months::MaybeSpan;
 use claim_months::MaybeWindow;
 use claim_months::Span;
 use claim_months::Window;
+use claim_months::weight::weight_of;
 use rates::Cell;
 use rates::Kind;
 use room::has_room;
@@ -44,11 +46,12 @@ pub struct Group {
     pub deaths: i64,
 }
 
-// A study: its window, the claims taken, and their sums.
+// A study: its window, the claims taken, their sums, and these with each claim's share multiplied by its benefit (document 02, No. 7).
 pub struct Study {
     pub window: Window,
     pub taken: u32,
     pub sums: Sums,
+    pub weighted: Sums,
 }
 
 // A study handed back, with the number of the first check that failed, or 0.
@@ -57,7 +60,7 @@ pub struct Answer {
     pub study: Study,
 }
 
-// A study with no claims taken and zero sums.
+// A study with no claims taken and zero sums in both sets.
 fn fresh_study(window: Window) -> Study
     ensures { λ r. ⌜ r ≡ fresh window ⌝ }
 {
@@ -65,26 +68,35 @@ fn fresh_study(window: Window) -> Study
         window,
         taken: 0,
         sums: no_sums(),
+        weighted: no_sums(),
     }
 }
 
-// The checks 6 to 9, told whether the lent sums are within their bounds, and the share of a sound claim's span added to them.
+// The checks 6 to 9, told whether the lent sums are within their bounds, and the share of a sound claim's span added to them: once, and times
+// the claim's weight to the weighted ones.
 fn add_span(
     kind: Kind,
     table: &[u32],
     cell: Cell,
     span: Span,
+    weight: u8,
     taken: u32,
     room: bool,
     thirtieths: &mut [i64],
     closings: &mut [u32],
     recoveries: &mut [i64],
     deaths: &mut [i64],
+    weighted_thirtieths: &mut [i64],
+    weighted_closings: &mut [u32],
+    weighted_recoveries: &mut [i64],
+    weighted_deaths: &mut [i64],
 ) -> u8
     requires { ⌜ SpanBounds span ⌝ }
-    requires { ⌜ lentShape (lentSums (now thirtieths) (now closings) (now recoveries) (now deaths)) ≡ true ⌝ }
+    requires { ⌜ weight ≤ 200 ⌝ }
+    requires { ⌜ lentShapes (lentSums (now thirtieths) (now closings) (now recoveries) (now deaths)) (lentSums (now «weighted_thirtieths») (now «weighted_closings») (now «weighted_recoveries») (now «weighted_deaths»)) ≡ true ⌝ }
     ensures { λ r. ⌜ r ≡ spanNumber taken room kind (now (table .entry)) (cell .0) ⌝ }
     ensures { λ r. ⌜ lentSums (now (thirtieths .exit)) (now (closings .exit)) (now (recoveries .exit)) (now (deaths .exit)) ≡ spanSums taken room (lentSums (now (thirtieths .entry)) (now (closings .entry)) (now (recoveries .entry)) (now (deaths .entry))) kind (now (table .entry)) (cell .0) span ⌝ }
+    ensures { λ r. ⌜ lentSums (now («weighted_thirtieths» .exit)) (now («weighted_closings» .exit)) (now («weighted_recoveries» .exit)) (now («weighted_deaths» .exit)) ≡ spanWeightedSums taken room (lentSums (now («weighted_thirtieths» .entry)) (now («weighted_closings» .entry)) (now («weighted_recoveries» .entry)) (now («weighted_deaths» .entry))) kind (now (table .entry)) (cell .0) span weight ⌝ }
 {
     let number = rates::prepared::check_of(kind, table, cell);
     if number != 0 {
@@ -94,11 +106,39 @@ fn add_span(
         return refusal::FULL;
     }
     if room {
-        add_months(kind, table, cell, span, thirtieths, recoveries, deaths);
-        add_closing(span, closings);
+        add_months(
+            kind,
+            table,
+            cell,
+            span,
+            weight,
+            thirtieths,
+            recoveries,
+            deaths,
+            weighted_thirtieths,
+            weighted_recoveries,
+            weighted_deaths,
+        );
+        add_closing(span, weight, closings, weighted_closings);
         return 0;
     }
     refusal::FULL
+}
+
+// Whether four lent lists have the lengths of sums.
+pub fn are_sums(thirtieths: &[i64], closings: &[u32], recoveries: &[i64], deaths: &[i64]) -> bool
+    ensures { λ r. ⌜ r ≡ lentShape (lentSums (now (thirtieths .entry)) (now (closings .entry)) (now (recoveries .entry)) (now (deaths .entry))) ⌝ }
+{
+    if thirtieths.len() != 5 {
+        return false;
+    }
+    if closings.len() != 25 {
+        return false;
+    }
+    if recoveries.len() != 5 {
+        return false;
+    }
+    deaths.len() == 5
 }
 
 // Adds a claim to a study whose sums are lent, told whether they are within the bounds of refusal 9: 0, or the number refused with the sums as they
@@ -114,20 +154,24 @@ pub fn add_to(
     closings: &mut [u32],
     recoveries: &mut [i64],
     deaths: &mut [i64],
+    weighted_thirtieths: &mut [i64],
+    weighted_closings: &mut [u32],
+    weighted_recoveries: &mut [i64],
+    weighted_deaths: &mut [i64],
 ) -> u8
-    ensures { λ r. ⌜ r ≡ addedToLent room kind (now (table .entry)) claim (lentStudy window taken (lentSums (now (thirtieths .entry)) (now (closings .entry)) (now (recoveries .entry)) (now (deaths .entry)))) .refused ⌝ }
-    ensures { λ r. ⌜ lentSums (now (thirtieths .exit)) (now (closings .exit)) (now (recoveries .exit)) (now (deaths .exit)) ≡ addedToLent room kind (now (table .entry)) claim (lentStudy window taken (lentSums (now (thirtieths .entry)) (now (closings .entry)) (now (recoveries .entry)) (now (deaths .entry)))) .study .sums ⌝ }
+    ensures { λ r. ⌜ r ≡ addedToLent room kind (now (table .entry)) claim (lentStudy window taken (lentSums (now (thirtieths .entry)) (now (closings .entry)) (now (recoveries .entry)) (now (deaths .entry))) (lentSums (now («weighted_thirtieths» .entry)) (now («weighted_closings» .entry)) (now («weighted_recoveries» .entry)) (now («weighted_deaths» .entry)))) .refused ⌝ }
+    ensures { λ r. ⌜ lentSums (now (thirtieths .exit)) (now (closings .exit)) (now (recoveries .exit)) (now (deaths .exit)) ≡ addedToLent room kind (now (table .entry)) claim (lentStudy window taken (lentSums (now (thirtieths .entry)) (now (closings .entry)) (now (recoveries .entry)) (now (deaths .entry))) (lentSums (now («weighted_thirtieths» .entry)) (now («weighted_closings» .entry)) (now («weighted_recoveries» .entry)) (now («weighted_deaths» .entry)))) .study .sums ⌝ }
+    ensures { λ r. ⌜ lentSums (now («weighted_thirtieths» .exit)) (now («weighted_closings» .exit)) (now («weighted_recoveries» .exit)) (now («weighted_deaths» .exit)) ≡ addedToLent room kind (now (table .entry)) claim (lentStudy window taken (lentSums (now (thirtieths .entry)) (now (closings .entry)) (now (recoveries .entry)) (now (deaths .entry))) (lentSums (now («weighted_thirtieths» .entry)) (now («weighted_closings» .entry)) (now («weighted_recoveries» .entry)) (now («weighted_deaths» .entry)))) .study .weighted ⌝ }
 {
-    if thirtieths.len() != 5 {
+    if !are_sums(thirtieths, closings, recoveries, deaths) {
         return 255;
     }
-    if closings.len() != 25 {
-        return 255;
-    }
-    if recoveries.len() != 5 {
-        return 255;
-    }
-    if deaths.len() != 5 {
+    if !are_sums(
+        weighted_thirtieths,
+        weighted_closings,
+        weighted_recoveries,
+        weighted_deaths,
+    ) {
         return 255;
     }
     match claim_months::exposure::span(claim, window) {
@@ -138,12 +182,17 @@ pub fn add_to(
                 table,
                 Cell(cell),
                 span,
+                weight_of(claim),
                 taken,
                 room,
                 thirtieths,
                 closings,
                 recoveries,
                 deaths,
+                weighted_thirtieths,
+                weighted_closings,
+                weighted_recoveries,
+                weighted_deaths,
             )
         }
         MaybeSpan::Refused(number) => number,
@@ -175,11 +224,25 @@ impl Study {
     {
         let window = self.window;
         let sums = self.sums;
+        let weighted = self.weighted;
         let mut thirtieths = sums.thirtieths;
         let mut closings = sums.closings;
         let mut recoveries = sums.recoveries;
         let mut deaths = sums.deaths;
-        let room = has_room(&thirtieths, &closings, &recoveries, &deaths);
+        let mut weighted_thirtieths = weighted.thirtieths;
+        let mut weighted_closings = weighted.closings;
+        let mut weighted_recoveries = weighted.recoveries;
+        let mut weighted_deaths = weighted.deaths;
+        let room = has_room(
+            &thirtieths,
+            &closings,
+            &recoveries,
+            &deaths,
+            &weighted_thirtieths,
+            &weighted_closings,
+            &weighted_recoveries,
+            &weighted_deaths,
+        );
         let refused = add_to(
             Kind::Plain,
             rates,
@@ -191,6 +254,10 @@ impl Study {
             &mut closings,
             &mut recoveries,
             &mut deaths,
+            &mut weighted_thirtieths,
+            &mut weighted_closings,
+            &mut weighted_recoveries,
+            &mut weighted_deaths,
         );
         if refused != 0 {
             return Answer {
@@ -204,12 +271,19 @@ impl Study {
             recoveries,
             deaths,
         };
+        let weighted = Sums {
+            thirtieths: weighted_thirtieths,
+            closings: weighted_closings,
+            recoveries: weighted_recoveries,
+            deaths: weighted_deaths,
+        };
         Answer {
             refused: 0,
             study: Study {
                 window,
                 taken: self.taken + 1,
                 sums,
+                weighted,
             },
         }
     }

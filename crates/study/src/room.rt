@@ -5,13 +5,13 @@ ghost use lib.Dec.{leb};
 ghost use lib.IntN.{natAbs};
 ghost use denote.Ref.{now};
 ghost use Rattle.basics.specs.Tables.{allWithin, allAtMost};
-ghost use Rattle.study.specs.Sums.{within};
+ghost use Rattle.study.specs.Study.{sumsWithin};
 ghost use Rattle.study.specs.PreparedAdding.{lentSums, roomFor};
 ghost use Rattle.study.specs.Private.{bounded};
 
 // Whether a number lies from −bound to bound.
 pub(crate) fn is_within(x: i64, bound: u64) -> bool
-    requires { ⌜ bound ≤ 27000000000000000 ⌝ }
+    requires { ⌜ bound ≤ 5400000000000000000 ⌝ }
     ensures { λ r. ⌜ r ≡ leb (natAbs x) bound ⌝ }
 {
     let limit = bound as i64;
@@ -23,7 +23,7 @@ pub(crate) fn is_within(x: i64, bound: u64) -> bool
 
 // Whether each of some sums lies from −bound to bound.
 fn all_within(sums: &[i64], bound: u64) -> bool
-    requires { ⌜ bound ≤ 27000000000000000 ⌝ }
+    requires { ⌜ bound ≤ 5400000000000000000 ⌝ }
     ensures { λ r. ⌜ r ≡ allWithin bound (now (sums .entry)) ⌝ }
 {
     for k in 0..sums.len() {
@@ -57,8 +57,8 @@ fn are_bounded(
     recoveries: &[i64],
     deaths: &[i64],
 ) -> bool
-    requires { ⌜ exposure ≤ 27000000000000000 ⌝ }
-    requires { ⌜ expected ≤ 27000000000000000 ⌝ }
+    requires { ⌜ exposure ≤ 5400000000000000000 ⌝ }
+    requires { ⌜ expected ≤ 5400000000000000000 ⌝ }
     ensures { λ r. ⌜ r ≡ bounded exposure expected count (lentSums (now (thirtieths .entry)) (now (closings .entry)) (now (recoveries .entry)) (now (deaths .entry))) ⌝ }
 {
     if !all_within(thirtieths, exposure) {
@@ -73,11 +73,20 @@ fn are_bounded(
     all_at_most(closings, count)
 }
 
-// Whether lent sums are within the bounds of refusal 9.
-pub fn has_room(thirtieths: &[i64], closings: &[u32], recoveries: &[i64], deaths: &[i64]) -> bool
-    ensures { λ r. ⌜ r ≡ within 1 (lentSums (now (thirtieths .entry)) (now (closings .entry)) (now (recoveries .entry)) (now (deaths .entry))) ⌝ }
+// Whether a study's lent sums are within the bounds of refusal 9.
+pub fn has_room(
+    thirtieths: &[i64],
+    closings: &[u32],
+    recoveries: &[i64],
+    deaths: &[i64],
+    weighted_thirtieths: &[i64],
+    weighted_closings: &[u32],
+    weighted_recoveries: &[i64],
+    weighted_deaths: &[i64],
+) -> bool
+    ensures { λ r. ⌜ r ≡ sumsWithin (lentSums (now (thirtieths .entry)) (now (closings .entry)) (now (recoveries .entry)) (now (deaths .entry))) (lentSums (now («weighted_thirtieths» .entry)) (now («weighted_closings» .entry)) (now («weighted_recoveries» .entry)) (now («weighted_deaths» .entry))) ⌝ }
 {
-    are_bounded(
+    if !are_bounded(
         27000000000,
         27000000000000000,
         500000,
@@ -85,6 +94,17 @@ pub fn has_room(thirtieths: &[i64], closings: &[u32], recoveries: &[i64], deaths
         closings,
         recoveries,
         deaths,
+    ) {
+        return false;
+    }
+    are_bounded(
+        27000000000 * 200,
+        27000000000000000 * 200,
+        500000 * 200,
+        weighted_thirtieths,
+        weighted_closings,
+        weighted_recoveries,
+        weighted_deaths,
     )
 }
 
@@ -94,10 +114,14 @@ pub fn has_room_for_block(
     closings: &[u32],
     recoveries: &[i64],
     deaths: &[i64],
+    weighted_thirtieths: &[i64],
+    weighted_closings: &[u32],
+    weighted_recoveries: &[i64],
+    weighted_deaths: &[i64],
 ) -> bool
-    ensures { λ r. ⌜ r ≡ roomFor 15 (lentSums (now (thirtieths .entry)) (now (closings .entry)) (now (recoveries .entry)) (now (deaths .entry))) ⌝ }
+    ensures { λ r. ⌜ r ≡ roomFor 15 (lentSums (now (thirtieths .entry)) (now (closings .entry)) (now (recoveries .entry)) (now (deaths .entry))) (lentSums (now («weighted_thirtieths» .entry)) (now («weighted_closings» .entry)) (now («weighted_recoveries» .entry)) (now («weighted_deaths» .entry))) ⌝ }
 {
-    are_bounded(
+    if !are_bounded(
         27000000000 - 15 * 54000,
         27000000000000000 - 15 * 240000000000000,
         500000 - 15,
@@ -105,5 +129,16 @@ pub fn has_room_for_block(
         closings,
         recoveries,
         deaths,
+    ) {
+        return false;
+    }
+    are_bounded(
+        (27000000000 - 15 * 54000) * 200,
+        (27000000000000000 - 15 * 240000000000000) * 200,
+        (500000 - 15) * 200,
+        weighted_thirtieths,
+        weighted_closings,
+        weighted_recoveries,
+        weighted_deaths,
     )
 }

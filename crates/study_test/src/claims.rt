@@ -15,6 +15,7 @@ fn with_cell(disability: u32, bcd: u32, cell: u16) -> Claim {
         status: 0,
         code: 0,
         cell,
+        benefit: 0,
     }
 }
 
@@ -32,6 +33,7 @@ fn with_status(disability: u32, bcd: u32, termination: u32, status: u8, code: u8
         status,
         code,
         cell: 0,
+        benefit: 0,
     }
 }
 
@@ -49,6 +51,7 @@ fn with_maximum(disability: u32, bcd: u32, termination: u32, maximum: u32, code:
         status: 1,
         code,
         cell: 0,
+        benefit: 0,
     }
 }
 

@@ -66,7 +66,7 @@ fn opening(first: u32, last: u32) {
 }
 
 // A study of a window, with claims taken and sums and counts that no claim gave it.
-fn made(first: u32, last: u32, taken: u32) -> Study {
+pub(crate) fn made(first: u32, last: u32, taken: u32) -> Study {
     Study {
         window: Window {
             first: Day(first),
@@ -79,11 +79,17 @@ fn made(first: u32, last: u32, taken: u32) -> Study {
             recoveries: [20, 21, 22, 23, 24],
             deaths: [30, 31, 32, 33, 34],
         },
+        weighted: Sums {
+            thirtieths: [50, 51, 52, 53, 54],
+            closings: [90; 25],
+            recoveries: [60, 61, 62, 63, 64],
+            deaths: [70, 71, 72, 73, 74],
+        },
     }
 }
 
 // The same from 2009 to 2017.
-fn given() -> Study {
+pub(crate) fn given() -> Study {
     made(21550, 24836, 7)
 }
 
@@ -183,7 +189,7 @@ fn sum(field: u8, place: usize, sum: i64, table: &[u32; 1916])
     show(with_sum(field, place, sum), 1, table);
 }
 
-fn changed(sums: [i64; 5], place: usize, sum: i64) -> [i64; 5]
+pub(crate) fn changed(sums: [i64; 5], place: usize, sum: i64) -> [i64; 5]
     requires { ⌜ place < 5 ⌝ }
 {
     let mut after = sums;

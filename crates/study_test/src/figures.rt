@@ -3,6 +3,7 @@ ghost use Prim.Native.Nat.{_<_};
 use std::num::wrapping_add_u64;
 use study::Group;
 use study::Study;
+use study::Sums;
 use test_support::lists::same;
 use test_support::numbers::bits;
 use test_support::print::put;
@@ -26,26 +27,35 @@ fn group_figure(group: Group, place: usize) -> u64
     closings[place - 1] as u64
 }
 
-fn figure(study: Study, place: usize) -> u64
+fn figure(sums: Sums, place: usize) -> u64
     requires { ⌜ place < 40 ⌝ }
 {
-    let sums = study.sums;
     group_figure(sums.group((place / 8 + 1) as u8), place % 8)
 }
 
-// The list with a study's figures added, place by place.
-pub(crate) fn with_study(list: [u64; 40], study: Study) -> [u64; 40] {
+// The list with the figures of some sums added, place by place.
+pub(crate) fn with_sums(list: [u64; 40], sums: Sums) -> [u64; 40] {
     let mut after = list;
     let mut k = 0;
     while k < 40 {
-        after[k] = wrapping_add_u64(list[k], figure(study, k));
+        after[k] = wrapping_add_u64(list[k], figure(sums, k));
         k += 1;
     }
     after
 }
 
+pub(crate) fn with_study(list: [u64; 40], study: Study) -> [u64; 40] {
+    let sums = study.sums;
+    with_sums(list, sums)
+}
+
 pub(crate) fn figures(study: Study) -> [u64; 40] {
     with_study([0; 40], study)
+}
+
+pub(crate) fn weighted_figures(study: Study) -> [u64; 40] {
+    let weighted = study.weighted;
+    with_sums([0; 40], weighted)
 }
 
 // Whether two studies are the same in every field.
@@ -59,7 +69,10 @@ pub(crate) fn same_study(a: Study, b: Study) -> bool {
     if a.taken != b.taken {
         return false;
     }
-    same(&figures(a), &figures(b))
+    if !same(&figures(a), &figures(b)) {
+        return false;
+    }
+    same(&weighted_figures(a), &weighted_figures(b))
 }
 
 // A group's line: its number and its figures in order.

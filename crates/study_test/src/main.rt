@@ -3,6 +3,7 @@
 mod claims;
 mod edges;
 mod figures;
+mod weights;
 
 use claims::CLAIMS;
 use claims::claim;
@@ -18,6 +19,7 @@ use test_support::lists::same;
 use test_support::print::put;
 use test_support::print::put_next;
 use test_support::print::put_number;
+use weights::weights;
 
 fn main() {
     let table = rate_table();
@@ -26,6 +28,7 @@ fn main() {
     negative(&table);
     changed(&table);
     edges(&table);
+    weights(&table);
 }
 
 // Two cells. The rates of cell 0 differ at every duration; those of cell 1 are together 1,000,000, and at duration 300 one more.
@@ -67,7 +70,7 @@ fn put_window(first: u32, last: u32) {
     put_next(last as u64);
 }
 
-fn opened(first: u32, last: u32) -> Study {
+pub(crate) fn opened(first: u32, last: u32) -> Study {
     let answer = Study::open(date(first), date(last));
     answer.study
 }
@@ -151,7 +154,7 @@ fn compare(name: &[u8], total: [u64; 40], whole: [u64; 40]) {
     put(b"\n");
 }
 
-fn put_yes(yes: bool) {
+pub(crate) fn put_yes(yes: bool) {
     if yes {
         put(b" yes");
     } else {

@@ -1,4 +1,4 @@
--- `study::fresh_study` meets its contract: its sums are those of no claims.
+-- `study::fresh_study` meets its contract: both sets of its sums are those of no claims.
 -- Assumes nothing.
 use borrow.Author.Needs.{needs}
 use Rattle.study.specs.Study.{fresh}
@@ -7,8 +7,8 @@ use Rattle.study.proofs.fresh_study.Tie as tie
 
 returns : tie.Need-returns
 unfolding fresh
-returns c = λ i. record { window = c .before .args .window; taken = 0; sums = c .no-sums .ensures i }
+returns c = λ i. record { window = c .before .before .args .window; taken = 0; sums = c .before .no-sums .ensures i; weighted = c .no-sums2 .ensures i }
 
 pub fresh-study-spec : {M : Type 1} → statement M
 fresh-study-spec = tie.close
-    (tie.spec (λ c κs. search needs) returns)
+    (tie.spec (λ c κs. search needs) (λ c κs. search needs) returns)

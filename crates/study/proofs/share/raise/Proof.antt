@@ -1,6 +1,6 @@
 -- `study::share::raise` meets its contract: one sum, read back from its bits, and the amount.
 -- Assumes nothing.
-use Prim.Native.Nat.{_≤_}
+use Prim.Native.Nat.{ℕ, _*_, _≤_}
 use mathlib.Core.Path.{_≡_, sym, ap, _∙_}
 use native.Mathlib.Omega.{arith}
 use borrow.Author.Needs.{needs}
@@ -27,21 +27,24 @@ module _ (c : tie.After-is-within) where
   abbrev amount : ℤ
   amount = start .args .amount
 
+  abbrev times : ℕ
+  times = start .args .times
+
   sum-read : toZ w64 (ofZ w64 sum) ≡ sum
   sum-read = toZ-ofZ (record { sfits = c .before .before2 .given })
 
 returns : tie.Need-returns
 returns c =
     let m = c .before in
-    let past = sum-past (sum m) (amount m) _ _ (rw (sum-read m) at (m .is-within .ensures)) (omega arith) (not-true _ (c .if1 .taken)) in
+    let past = sum-past (times m) (sum m) (amount m) _ _ (rw (sum-read m) at (m .is-within .ensures)) (omega arith) (not-true _ (c .if1 .taken)) in
     sym (ap (set (start m .args .sums .now) (start m .args .place)) past ∙ set-getD (start m .args .sums .now) (start m .args .place) (pos 0))
 
 module _ (c : tie.Else1) where
   abbrev here : tie.After-is-within
   here = c .before
 
-  small : natAbs (sum here) ≤ 27000000000000000
-  small = sum-small (sum here) (amount here) _ _ (rw (sum-read here) at (here .is-within .ensures)) (omega arith) (not-false _ (c .if1 .left))
+  small : natAbs (sum here) ≤ 27000000000000000 * times here
+  small = sum-small (times here) (sum here) (amount here) _ _ (rw (sum-read here) at (here .is-within .ensures)) (omega arith) (not-false _ (c .if1 .left))
 
   after-small : Small (sum here +ℤ amount here)
   after-small = omega (arith, small, size-sum (sum here) (amount here))
@@ -54,9 +57,10 @@ returns-2 c =
     let m = here c in
     ap (set (start m .args .sums .now) (start m .args .place))
     (result-is _+ℤ_ (sum m) (amount m) (omega (arith, small c)) (omega arith) (after-small c)
-    ∙ sym (sum-raised (sum m) (amount m) _ _ (rw (sum-read m) at (m .is-within .ensures)) (omega arith) (not-false _ (c .if1 .left))))
+    ∙ sym (sum-raised (times m) (sum m) (amount m) _ _ (rw (sum-read m) at (m .is-within .ensures)) (omega arith) (not-false _ (c .if1 .left))))
 
 pub raise-spec : {M : Type 1} → statement M
 raise-spec =
     tie.close
-    (tie.spec (λ c. omega arith) (λ c. omega arith) (λ c κs. search needs) returns add-sums (λ c. omega arith) (λ c. omega arith) (λ c. search needs) returns-2)
+    (tie.spec (λ c. omega arith) (λ c. omega arith) (λ c. omega arith) (λ c κs. omega arith) returns add-sums
+    (λ c. omega arith) (λ c. omega arith) (λ c. search needs) returns-2)
