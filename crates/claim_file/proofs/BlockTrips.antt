@@ -53,7 +53,7 @@ claim-back c rest f =
     (date-back (c .bcd) [] (f .bcd-fits))
     (date-back (c .termination) [] (f .termination-fits))
     (date-back (c .maximum) [] (f .maximum-fits))
-    refl refl (two-whole (c .cell) (f .cell-fits))
+    refl refl (two-whole (c .cell) (f .cell-fits)) refl
 
 -- zeros, and the zeros past a claim's fields
 zeros-zero : (n : ℕ) (rest : List ℕ) → zeroFrom (zeros n ++ rest) 0 n ≡ true
@@ -61,7 +61,7 @@ unfolding zeros zeroFrom byteAt
 zeros-zero zero rest = refl
 zeros-zero (suc n) rest = zero-drop (0 ∷ (zeros n ++ rest)) 1 n 1 0 refl ∙ zeros-zero n rest
 
-claim-padded : (c : Claim) (rest : List ℕ) → zeroFrom (claimBytes c ++ rest) 24 8 ≡ true
+claim-padded : (c : Claim) (rest : List ℕ) → zeroFrom (claimBytes c ++ rest) 25 7 ≡ true
 unfolding claimBytes zeroFrom byteAt
 claim-padded c rest = refl
 
@@ -105,8 +105,8 @@ module _ (n : ℕ) (cs : List Claim) (few : length cs ≤ 15) where
   padded-all zero h = refl
   padded-all (suc k) h =
       let d = getD cs k noClaim in
-      let z = zero-drop (blockBytes n cs) (16 + 32 * k) 8 (16 + 32 * k + 24) 24 refl
-      ∙ ap (λ (r : List ℕ). zeroFrom r 24 8) (at-claim k noClaim h)
+      let z = zero-drop (blockBytes n cs) (16 + 32 * k) 7 (16 + 32 * k + 25) 25 refl
+      ∙ ap (λ (r : List ℕ). zeroFrom r 25 7) (at-claim k noClaim h)
       ∙ claim-padded d (allClaimBytes (drop (suc k) cs) ++ (zeros (494 - 32 * length cs) ++ last)) in
       λ i. padded-all k (omega arith) i && z i
 

@@ -20,13 +20,11 @@ use Rattle.claim_months.specs.Windows.{windowSound, datesWindow}
 use Rattle.claim_months.proofs.DateWindows.{dates-sound, both-dates}
 use Rattle.claim_months.proofs.Parts.{parts-map, parts-every, every-map}
 use Rattle.study.specs.declared.Answer.{Answer}
-use Rattle.study.specs.Sums.{none, plus}
-use Rattle.study.specs.Study.{shareOf, sumOver, studyOf, fresh, opened}
-use Rattle.study.proofs.Algebra.{Shaped}
-use Rattle.study.proofs.SumOver.{All, Commutes, AnyCount, counts, sums, good-sum, length-sum}
-use Rattle.study.proofs.Capacity.{Accepted, share-shaped}
-use Rattle.study.proofs.Built.{numberAfter, added-after, zero-accepted, fresh-built}
-use Rattle.study.proofs.Totals.{studies-total, same-totals}
+use Rattle.study.specs.Study.{sumOver, studyOf, fresh, opened}
+use Rattle.study.proofs.SumOver.{All, Commutes, good-sum, sum-append}
+use Rattle.study.proofs.Capacity.{Accepted}
+use Rattle.study.proofs.Built.{numberAfter, added-after, zero-accepted, fresh-built, study-same}
+use Rattle.study.proofs.Totals.{built-total}
 use Rattle.study.proofs.Demand3.{opens-window}
 use Rattle.claim_file.specs.declared.WindowDates.{WindowDates}
 use Rattle.claim_file.specs.declared.FileRun.{FileRun}
@@ -115,11 +113,6 @@ module _ (rates : List ℕ) where
     abbrev sumOf : List Claim → A
     sumOf = sumOver add zero-sum f
 
-    sum-append : (xs ys : List Claim) → sumOf (xs ++ ys) ≡ add (sumOf xs) (sumOf ys)
-    unfolding sumOver
-    sum-append [] ys = sym (laws .left (sumOf ys) (good-sum add zero-sum GoodSum laws rates f good ys))
-    sum-append (x ∷ xs) ys = ap (add (f x)) (sum-append xs ys) ∙ sym (laws .assoc (f x) (sumOf xs) (sumOf ys))
-
     claims-sum : (p : Plain) (bytes : List ℕ) (n k : ℕ) (cs : List Claim) → plainClaims p cs bytes k n .refused ≡ 0
         → sumOf (plainClaims p cs bytes k n .claims) ≡ add (sumOf (claimsOfBlock bytes k n)) (sumOf cs)
     unfolding plainClaims claimsOfBlock sumOver
@@ -167,7 +160,7 @@ module _ (rates : List ℕ) where
         blocks-sum n q (drop 512 bytes) h
         ∙ ap (add (sumOf later)) (block-sum p (take 512 bytes) (still-refused n q (drop 512 bytes) h))
         ∙ sym (laws .assoc (sumOf later) (sumOf here) (sumOf (p .claims)))
-        ∙ ap (λ (x : A). add x (sumOf (p .claims))) (laws .comm (sumOf later) (sumOf here) ∙ sym (sum-append here later)))
+        ∙ ap (λ (x : A). add x (sumOf (p .claims))) (laws .comm (sumOf later) (sumOf here) ∙ sym (sum-append add zero-sum GoodSum laws rates f good here later)))
         (λ u h. absurd (eqb-false (p .refused) 0 u h)) h₀
 
     -- the claims of a whole file
@@ -303,12 +296,7 @@ module _ (rates : List ℕ) (w : WindowDates) (ok : Accepts w) where
       let e = run-plain rest in
       let h : p .refused ≡ 0 = sym (ap (λ (r : FileRun). r .refused) e) ∙ z in
       ap (λ (r : FileRun). r .study) e
-      ∙ (λ i.
-      record {
-        window = windowDays w;
-        taken = (sym (length-sum (p .claims)) ∙ fed-sum rates _+_ 0 AnyCount counts (λ c. 1) (λ c. tt) first rest refl h ∙ length-sum (fileClaims rest)) i;
-        sums = fed-sum rates plus none Shaped sums (shareOf (windowDays w) rates) (share-shaped (windowDays w) rates) first rest refl h i;
-      })
+      ∙ study-same (windowDays w) rates (p .claims) (fileClaims rest) (λ A add z GoodSum laws f good. fed-sum rates add z GoodSum laws f good first rest refl h)
 
 -- what runs of two windows share: all that the plain run has
 run-shares : {A : Type 0} (rates rest : List ℕ) (v w : WindowDates) (k : Accepts v) (ok : Accepts w) (f : FileRun → A)
@@ -334,14 +322,14 @@ files-demand-3 rates rest whole part parts ok ps =
     let o = parts-every Accepts windowDays b e part parts ps in
     let p = plainFed rates first rest in
     let g = fed-good rates first rest (record { accepted = tt; behind = omega tests }) in
+    let t =
+    built-total windowDays (λ w. runOf rates rest w .study) rates (p .claims) (g .accepted) whole part parts
+    (parts-map _ _ windowDays (λ w k. sound-days rates w k) b e part parts ps) (ap (λ (r : FileRun). r .study) (run-plain rates whole ok rest))
+    (every-map _ _ (λ w k. ap (λ (r : FileRun). r .study) (run-plain rates w k rest)) part parts o) in
     record {
       same-end = every-map _ _ (λ w k. same-end rates rest w whole k ok) part parts o;
-      sums =
-          same-totals (λ w. studyOf (windowDays w) rates (p .claims) .sums) (λ w. runOf rates rest w .study .sums) _ _ part parts
-          (every-map _ _ (λ w k. sym (ap (λ (r : FileRun). r .study .sums) (run-plain rates w k rest))) part parts o)
-          (sym (ap (λ (r : FileRun). r .study .sums) (run-plain rates whole ok rest)))
-          (studies-total windowDays rates (p .claims) (g .accepted) b e part parts
-          (parts-map _ _ windowDays (λ w k. sound-days rates w k) b e part parts ps));
+      sums = t .0;
+      weighted = t .1;
       whole-study = has-study rates whole ok rest;
       part-studies = every-map _ _ (λ w k. has-study rates w k rest) part parts o;
     }

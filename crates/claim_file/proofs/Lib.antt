@@ -1,4 +1,4 @@
--- `RoundTrip`: the round trips of the calls. `Feeding`: a file in pieces. `Files`: demand 3 for files. `SameRuns`: runs with a prepared table. `OlderRuns`: files from before document 02's No. 4. `Reading`: a claim block read. `ByteStores`: runs
+-- `RoundTrip`: the round trips of the calls. `Feeding`: a file in pieces. `Files`: demand 3 for files. `SameRuns`: runs with a prepared table. `OlderRuns`: files from before document 02's Nos. 4 and 7. `Reading`: a claim block read. `ByteStores`: runs
 -- of stores, of claims' records among them. The other modules have what these and the proofs of the calls cite.
 pub mod RoundTrip
 pub mod Feeding
@@ -9,6 +9,7 @@ pub mod Reading
 pub mod ByteStores
 mod BlockTrips
 mod Runs
+mod LentRuns
 mod RecordParts
 mod BlockTests
 mod Changed

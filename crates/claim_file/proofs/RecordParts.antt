@@ -30,9 +30,21 @@ pub same-claim :
     → c .status ≡ d .status
     → c .code ≡ d .code
     → c .cell ≡ d .cell
+    → c .benefit ≡ d .benefit
     → c ≡ d
-same-claim c d n a b t m s k l =
-    λ i. record { number = n i; disability = a i; bcd = b i; termination = t i; maximum = m i; status = s i; code = k i; cell = l i }
+same-claim c d n a b t m s k l w =
+    λ i.
+    record {
+      number = n i;
+      disability = a i;
+      bcd = b i;
+      termination = t i;
+      maximum = m i;
+      status = s i;
+      code = k i;
+      cell = l i;
+      benefit = w i;
+    }
 
 -- reading and writing a record, as the tests come out
 module _ (bytes : List ℕ) (i : ℕ) where

@@ -1,13 +1,13 @@
 -- A file run step by step, as the code's loops go: what feeding comes to at a refused run, at no bytes, at a part block and at a
--- whole block, and a block by what begins it and by its claims one at a time.
+-- whole block, and a block's claims one at a time.
 -- Assumes nothing.
 use Prim.Native.Nat.{ℕ, zero, suc, _+_, _-_, _/_, _%_, _≤_, _<_}
 use mathlib.Core.Path.{_≡_, refl, sym, ap, _∙_}
 use mathlib.Core.Bool.{Bool, true, false, and-false}
 use mathlib.Core.List.{List}
 use native.Mathlib.Omega.{arith}
-use lib.ListN.{length, take, drop, getD, length-drop, length-take}
-use lib.Seq.{take-all}
+use lib.ListN.{length, take, drop, length-drop, drop-of-length-le}
+use lib.Seq.{take-all, drop-drop}
 use lib.Dec.{ltb, eqb}
 use borrow.Author.Tests.{eq-eqb, ne-eqb, lt-ltb, eqb-true}
 use Rattle.basics.specs.Pick.{pick}
@@ -70,17 +70,13 @@ pub begun-part : (s : Study) (due : ℕ) (bytes : List ℕ) → (length bytes �
 unfolding begun
 begun-part s due bytes h = rw (not-sound due bytes h)
 
--- a block that an answer begins, and a claim that an answer adds at place k of n, as the test of the number refused comes out
-abbrev begins : FileRun → Adding → List ℕ → Answer → Bool → FileRun
-begins r add bytes a t = pick t (claimsFrom r (a .study) add bytes 0 (claimCount bytes)) (stops r (a .study) (a .refused) 0)
+block-part : (r : FileRun) (add : Adding) (bytes : List ℕ) → (length bytes ≡ 512 → ⊥) → blockFed r add bytes ≡ stops r (r .study) 11 0
+unfolding blockFed
+block-part r add bytes h = rw (begun-part (r .study) (r .due) bytes h)
 
+-- a claim that an answer adds at place k of n, as the test of the number refused comes out
 abbrev adds : FileRun → Adding → List ℕ → ℕ → ℕ → Answer → Bool → FileRun
 adds r add bytes k n a t = pick t (claimsFrom r (a .study) add bytes k n) (stops r (a .study) (a .refused) k)
-
-block-begun : (r : FileRun) (add : Adding) (bytes : List ℕ)
-    → blockFed r add bytes ≡ begins r add bytes (begun (r .study) (r .due) bytes) (eqb (begun (r .study) (r .due) bytes .refused) 0)
-unfolding blockFed
-block-begun r add bytes = refl
 
 -- a refused run takes no more
 module _ (r : FileRun) (add : Adding) (bytes : List ℕ) (h : r .refused ≡ 0 → ⊥) where
@@ -92,10 +88,6 @@ module _ (r : FileRun) (add : Adding) (bytes : List ℕ) (h : r .refused ≡ 0 �
   pub fed-refused : fed r add bytes ≡ r
   unfolding fed partFed
   fed-refused = rw (blocks-refused (length bytes / 512), ne-eqb _ _ h)
-
-pub goes-on-so : (r : FileRun) (s : Study) → goesOn r s .refused ≡ 0
-unfolding goesOn
-goes-on-so r s = refl
 
 pub stops-refused : (r : FileRun) (s : Study) (number place : ℕ) → (number ≡ 0 → ⊥) → stops r s number place .refused ≡ 0 → ⊥
 unfolding stops
@@ -142,11 +134,19 @@ module _ (r : FileRun) (s : Study) (add : Adding) (bytes : List ℕ) (k n : ℕ)
 pub claims-start : (r : FileRun) (s : Study) (add : Adding) (bytes : List ℕ) (n : ℕ) → claimsFrom r s add bytes 0 n ≡ claimsFrom r s add bytes 0 (n - 0)
 claims-start r s add bytes n = let e : n ≡ n - 0 = omega arith in ap (claimsFrom r s add bytes 0) e
 
+-- of the run they need no more than the number of the block due
+pub claims-due : (r s : FileRun) (x : Study) (add : Adding) (bytes : List ℕ) (k n : ℕ) → r .due ≡ s .due → claimsFrom r x add bytes k n ≡ claimsFrom s x add bytes k n
+unfolding claimsFrom goesOn stops
+claims-due r s x add bytes k zero e = λ i. record { study = x; due = e i + 1; refused = 0; block = 0; place = 0 }
+claims-due r s x add bytes k (suc n) e =
+    let a = add x (blockClaim bytes k) in
+    λ i. pick (eqb (a .refused) 0) (claims-due r s (a .study) add bytes (suc k) n e i) (record { study = a .study; due = e i; refused = a .refused; block = e i; place = suc k })
+
 pub claims-end : (r : FileRun) (s : Study) (add : Adding) (bytes : List ℕ) (k n : ℕ) → n ≤ k → claimsFrom r s add bytes k (n - k) ≡ goesOn r s
 unfolding claimsFrom
 claims-end r s add bytes k n h = let e : n - k ≡ 0 = omega arith in rw e
 
--- a block's bytes are the first 512 of those left, or all of them if they are fewer
+-- a block's bytes are the first 512 of those left, or all of them if they are fewer; and what is left behind them
 pub part-is : (bytes : List ℕ) (from to : ℕ) → to ≡ from + (512 - (512 - (length bytes - from)))
     → take (to - from) (drop from bytes) ≡ take 512 (drop from bytes)
 part-is bytes from to e =
@@ -155,33 +155,22 @@ part-is bytes from to e =
     (λ t. take-all (to - from) (drop from bytes) (omega tests) ∙ sym (take-all 512 (drop from bytes) (omega tests)))
     (λ t. let q : to - from ≡ 512 = omega tests in ap (λ (n : ℕ). take n (drop from bytes)) q)
 
--- feeding some bytes by their first block
-module _ (r : FileRun) (add : Adding) (bytes part : List ℕ) (p : part ≡ take 512 bytes) (u : r .refused ≡ 0) (a : Answer) (q : a ≡ begun (r .study) (r .due) part) where
-  fed-first : 512 ≤ length bytes → fed r add bytes ≡ fed (begins r add part a (eqb (a .refused) 0)) add (drop 512 bytes)
-  fed-first l =
-      fed-block r add bytes u l
-      ∙ ap (λ (b : List ℕ). fed (blockFed r add b) add (drop 512 bytes)) (sym p)
-      ∙ ap (λ (x : FileRun). fed x add (drop 512 bytes)) (block-begun r add part ∙ (λ i. begins r add part (sym q i) (eqb (sym q i .refused) 0)))
+pub rest-is : (bytes : List ℕ) (from to : ℕ) → from ≤ length bytes → to ≡ from + (512 - (512 - (length bytes - from))) → drop 512 (drop from bytes) ≡ drop to bytes
+rest-is bytes from to h e =
+    drop-drop 512 from bytes
+    ∙ by (ltb (length bytes - from) 512) (λ _. drop (from + 512) bytes ≡ drop to bytes)
+    (λ t. drop-of-length-le bytes {i = from + 512} (omega tests) ∙ sym (drop-of-length-le bytes {i = to} (omega tests)))
+    (λ t. let q : from + 512 ≡ to = omega tests in ap (λ (n : ℕ). drop n bytes) q)
 
-  pub fed-stops : 0 < length bytes → (a .refused ≡ 0 → ⊥) → fed r add bytes ≡ stops r (a .study) (a .refused) 0
-  fed-stops l h =
-      by (ltb (length bytes) 512) (λ _. fed r add bytes ≡ stops r (a .study) (a .refused) 0)
-      (λ t.
-      let s : length bytes < 512 = omega tests in
-      let w : length part ≡ 512 → ⊥ = λ z. absurd (omega (arith, ap length (p ∙ take-all 512 bytes (omega arith)))) in
-      let b : a ≡ record { refused = 11; study = r .study } = q ∙ begun-part (r .study) (r .due) part w in
-      fed-part r add bytes u l s ∙ ap (λ (x : Answer). stops r (x .study) (x .refused) 0) (sym b))
-      (λ t.
-      fed-first (omega tests)
-      ∙ ap (λ (t : Bool). fed (begins r add part a t) add (drop 512 bytes)) (ne-eqb _ _ h)
-      ∙ fed-refused (stops r (a .study) (a .refused) 0) add (drop 512 bytes) (stops-refused r (a .study) (a .refused) 0 h))
-
-  pub begun-so : a .refused ≡ 0 → Sound (r .due) part
-  begun-so h = sound (r .due) part (begun-sound (r .study) (r .due) part (ap (λ (x : Answer). x .refused) (sym q) ∙ h))
-
-  pub fed-claims : a .refused ≡ 0 → fed r add bytes ≡ fed (claimsFrom r (a .study) add part 0 (getD part 2 0)) add (drop 512 bytes)
-  unfolding claimCount byteAt
-  fed-claims h =
-      let s = begun-so h .length-so in
-      fed-first (omega (arith, ap length p, length-take 512 bytes))
-      ∙ ap (λ (t : Bool). fed (begins r add part a t) add (drop 512 bytes)) (eq-eqb _ _ h)
+-- some bytes by their first block, a whole one or not, and then the rest
+pub fed-turn : (r : FileRun) (add : Adding) (bytes part : List ℕ) → part ≡ take 512 bytes → r .refused ≡ 0 → 0 < length bytes
+    → fed r add bytes ≡ fed (blockFed r add part) add (drop 512 bytes)
+fed-turn r add bytes part p u l =
+    by (ltb (length bytes) 512) (λ _. fed r add bytes ≡ fed (blockFed r add part) add (drop 512 bytes))
+    (λ t.
+    let s : length bytes < 512 = omega tests in
+    let w : length part ≡ 512 → ⊥ = λ z. absurd (omega (arith, ap length (p ∙ take-all 512 bytes (omega arith)))) in
+    fed-part r add bytes u l s
+    ∙ sym (fed-refused (stops r (r .study) 11 0) add (drop 512 bytes) (stops-refused r (r .study) 11 0 (λ z. absurd (omega arith))))
+    ∙ ap (λ (x : FileRun). fed x add (drop 512 bytes)) (sym (block-part r add part w)))
+    (λ t. fed-block r add bytes u (omega tests) ∙ ap (λ (b : List ℕ). fed (blockFed r add b) add (drop 512 bytes)) (sym p))

@@ -45,6 +45,7 @@ module _ (bytes : List ℕ) (i : ℕ) where
       (byte-drop (i + 20) 20 refl)
       (byte-drop (i + 21) 21 refl)
       (two-drop (i + 22) 22 refl)
+      (byte-drop (i + 24) 24 refl)
 
   pub zero-drop : (n j k : ℕ) → j ≡ i + k → zeroFrom bytes j n ≡ zeroFrom (drop i bytes) k n
   unfolding zeroFrom
@@ -114,7 +115,7 @@ module _ (bytes : List ℕ) where
       ∙ (λ i. two-read 0 a b i ++ two-read 2 c d i)
 
   -- a claim's 32 bytes
-  claim-read : ((j : ℕ) → j < 32 → byteAt bytes j < 256) → zeroFrom bytes 24 8 ≡ true → claimBytes (claimFrom bytes 0) ≡ part bytes 0 32
+  claim-read : ((j : ℕ) → j < 32 → byteAt bytes j < 256) → zeroFrom bytes 25 7 ≡ true → claimBytes (claimFrom bytes 0) ≡ part bytes 0 32
   unfolding claimFrom claimBytes part zeros
   claim-read h z =
       let b : (j : ℕ) → j ≤ 31 → byteAt bytes j < 256 = λ j l. h j (omega arith) in
@@ -123,12 +124,12 @@ module _ (bytes : List ℕ) where
       → dateBytes (dateFrom bytes j) ≡ byteAt bytes j ∷ byteAt bytes (j + 1) ∷ byteAt bytes (j + 2) ∷ byteAt bytes (j + 3) ∷ [] =
       λ j l. date-read j (b j (omega arith)) (b (j + 1) (omega arith)) in
       let c = two-read 22 (b 22 (omega arith)) (b 23 (omega arith)) in
-      let o = zero-part bytes 8 24 z in
+      let o = zero-part bytes 7 25 z in
       λ i.
       n i
       ++ (d 4 (omega arith) i
       ++ (d 8 (omega arith) i
-      ++ (d 12 (omega arith) i ++ (d 16 (omega arith) i ++ (byteAt bytes 20 ∷ byteAt bytes 21 ∷ (c i ++ o i))))))
+      ++ (d 12 (omega arith) i ++ (d 16 (omega arith) i ++ (byteAt bytes 20 ∷ byteAt bytes 21 ∷ (c i ++ (byteAt bytes 24 ∷ o i)))))))
 
 pub claim-split : (bytes : List ℕ) (i : ℕ) → i + 32 ≤ length bytes → ((j : ℕ) → j < length bytes → byteAt bytes j < 256)
     → recordPadded bytes i ≡ true → drop i bytes ≡ claimBytes (claimFrom bytes i) ++ drop (i + 32) bytes
@@ -137,7 +138,7 @@ claim-split bytes i h b z =
     let l = length-drop i bytes in
     let s : (j : ℕ) → j < 32 → byteAt (drop i bytes) j < 256 =
     λ j k. subst (λ (n : ℕ). n < 256) (byte-drop bytes i (i + j) j refl) (b (i + j) (omega arith)) in
-    let r = sym (claim-read (drop i bytes) s (sym (zero-drop bytes i 8 (i + 24) 24 refl) ∙ z)) in
+    let r = sym (claim-read (drop i bytes) s (sym (zero-drop bytes i 7 (i + 25) 25 refl) ∙ z)) in
     part-split (drop i bytes) 32 0 (omega arith)
     ∙ (λ d. r d ++ drop-drop 32 i bytes d)
     ∙ ap (λ (c : Claim). claimBytes c ++ drop (i + 32) bytes) (sym (claim-drop bytes i))

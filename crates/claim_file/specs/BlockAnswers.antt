@@ -40,7 +40,7 @@ abbrev pub noDate : Date
 noDate = record { year = 0; month = 0; day = 0 }
 
 abbrev pub noClaim : Claim
-noClaim = record { number = 0; disability = noDate; bcd = noDate; termination = noDate; maximum = noDate; status = 0; code = 0; cell = 0 }
+noClaim = record { number = 0; disability = noDate; bcd = noDate; termination = noDate; maximum = noDate; status = 0; code = 0; cell = 0; benefit = 0 }
 
 -- the first n of the claims in 15 places, from place k on
 unfoldable pub claimsIn : List ℕ → ℕ → ℕ → List Claim

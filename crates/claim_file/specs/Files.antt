@@ -1,5 +1,5 @@
 -- Demand 3 for files: of files that differ only in the window of block 0, with windows that cut one another, every run ends at the same place under
--- the same number, with as many claims taken, and their sums add up, also the sums so far; a run that is not refused has the study of the
+-- the same number, with as many claims taken, and their sums add up in both sets, also the sums so far; a run that is not refused has the study of the
 -- file's claims. `crates/claim_file/proofs/Files.antt` proves it.
 use Prim.Native.Nat.{ℕ, zero, suc, _/_}
 use mathlib.Core.Path.{_≡_}
@@ -53,6 +53,7 @@ HasStudy rates rest w = runOf rates rest w .refused ≡ 0 → runOf rates rest w
 pub record FilesAddUp (rates rest : List ℕ) (whole part : WindowDates) (parts : List WindowDates) : Type 0 where
   pub same-end : EveryPart (λ w. SameEnd (runOf rates rest w) (runOf rates rest whole)) part parts
   pub sums : total plus (λ w. runOf rates rest w .study .sums) part parts ≡ runOf rates rest whole .study .sums
+  pub weighted : total plus (λ w. runOf rates rest w .study .weighted) part parts ≡ runOf rates rest whole .study .weighted
   pub whole-study : HasStudy rates rest whole
   pub part-studies : EveryPart (HasStudy rates rest) part parts
 

@@ -5,6 +5,8 @@ pub mod Block
 pub mod BlockAnswers
 pub mod Run
 pub mod PreparedRuns
+pub mod LentRuns
 pub mod Files
 pub mod RoundTrip
 pub mod OlderFiles
+pub mod Private

@@ -5,7 +5,8 @@ use mathlib.Core.List.{List, [], _∷_, _++_}
 use Rattle.claim_months.specs.declared.Claim.{Claim}
 use Rattle.claim_file.specs.Bytes.{byteAt, twoAt, fourAt, dateFrom, zeroFrom, dateBytes}
 
--- Claim: number 0–3; disability, BCD, termination, maximum dates at 4, 8, 12, 16; status 20; code 21; cell 22–23 (document 02, No. 4)
+-- Claim: number 0–3; disability, BCD, termination, maximum dates at 4, 8, 12, 16; status 20; code 21; cell 22–23 (document 02, No. 4);
+-- benefit 24 (document 02, No. 7)
 unfoldable pub claimFrom : List ℕ → ℕ → Claim
 claimFrom bytes i =
     record {
@@ -17,18 +18,19 @@ claimFrom bytes i =
       status = byteAt bytes (i + 20);
       code = byteAt bytes (i + 21);
       cell = twoAt bytes (i + 22);
+      benefit = byteAt bytes (i + 24);
     }
 
--- the eight bytes past its fields are zero
+-- the seven bytes past its fields are zero
 unfoldable pub recordPadded : List ℕ → ℕ → Bool
-recordPadded bytes i = zeroFrom bytes (i + 24) 8
+recordPadded bytes i = zeroFrom bytes (i + 25) 7
 
 -- the 32 bytes of a claim, and those of several claims
 unfoldable pub claimBytes : Claim → List ℕ
 claimBytes c =
     c .number % 256 ∷ c .number / 256 % 256 ∷ c .number / 65536 % 256 ∷ c .number / 16777216 % 256
     ∷ (dateBytes (c .disability) ++ (dateBytes (c .bcd) ++ (dateBytes (c .termination) ++ (dateBytes (c .maximum)
-    ++ (c .status ∷ c .code ∷ c .cell % 256 ∷ c .cell / 256 % 256 ∷ 0 ∷ 0 ∷ 0 ∷ 0 ∷ 0 ∷ 0 ∷ 0 ∷ 0 ∷ [])))))
+    ++ (c .status ∷ c .code ∷ c .cell % 256 ∷ c .cell / 256 % 256 ∷ c .benefit ∷ 0 ∷ 0 ∷ 0 ∷ 0 ∷ 0 ∷ 0 ∷ 0 ∷ [])))))
 
 unfoldable pub allClaimBytes : List Claim → List ℕ
 allClaimBytes [] = []

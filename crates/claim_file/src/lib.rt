@@ -6,6 +6,7 @@ pub mod run;
 
 use calendar::Date;
 use claim_months::Claim;
+use claim_months::Window;
 use study::Study;
 
 // A record's claim, or no record.
@@ -41,6 +42,16 @@ pub enum MaybeDates {
 // A file run so far: its study, the number of the block due, and where it was refused, if it was: number, block and claim place.
 pub struct FileRun {
     pub study: Study,
+    pub due: u32,
+    pub refused: u8,
+    pub block: u32,
+    pub place: u8,
+}
+
+// A file run so far, but for its study's sums, which are lent with it.
+pub struct LentRun {
+    pub window: Window,
+    pub taken: u32,
     pub due: u32,
     pub refused: u8,
     pub block: u32,

@@ -38,6 +38,7 @@ pub fn no_claim() -> Claim
         status: 0,
         code: 0,
         cell: 0,
+        benefit: 0,
     }
 }
 
@@ -55,6 +56,7 @@ pub(crate) fn claim_from(bytes: &[u8], at: usize) -> Claim
         status: bytes[at + 20],
         code: bytes[at + 21],
         cell: two_at(bytes, at + 22),
+        benefit: bytes[at + 24],
     }
 }
 
@@ -63,7 +65,7 @@ pub(crate) fn is_padded(bytes: &[u8], at: usize) -> bool
     requires { ⌜ at + 32 ≤ length (now bytes) ⌝ }
     ensures { λ r. ⌜ r ≡ recordPadded (now (bytes .entry)) at ⌝ }
 {
-    all_zero(bytes, at + 24, 8)
+    all_zero(bytes, at + 25, 7)
 }
 
 // Whether a list has the 32 bytes of a record at a byte.
@@ -113,7 +115,8 @@ pub(crate) fn put_claim(claim: Claim, at: usize, bytes: &mut [u8])
     bytes[at + 20] = claim.status;
     bytes[at + 21] = claim.code;
     put_two(claim.cell, at + 22, bytes);
-    put_zeros(at + 24, 8, bytes);
+    bytes[at + 24] = claim.benefit;
+    put_zeros(at + 25, 7, bytes);
 }
 
 // Stores a claim's record at a byte if there is room for it, and says whether there is.

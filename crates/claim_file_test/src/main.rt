@@ -1,15 +1,16 @@
 // Runs the claim files of data/, whole and in pieces, and reads and writes blocks of them. A file's name is one letter:
 // a the document's example, b empty, c 511 bytes, d block 0 twice, e a window that ends before it starts, f one from no date,
 // g a claim refused in the middle of the third block after fifteen in the second, h a part block at the end, i blocks of 15, 0 and
-// 1 claims, j a bad check, k a byte not zero in a claim, its 24, l one past the claims, m one before byte 16, n count 16, o a number right
+// 1 claims, j a bad check, k a byte not zero in a claim, its 25, l one past the claims, m one before byte 16, n count 16, o a number right
 // in its low byte only, p block 0 alone, q a month of -1 thirtieths, r block 0 with a count, s block 0 with a byte not zero past
-// the window, t to w claims refused 2, 3, 5 and 7, x a claim in cell 256.
+// the window, t to w claims refused 2, 3, 5 and 7, x a claim in cell 256, y claims with benefits of 200, 0 and 201, the last refused 16.
 use claim_file::Block;
 use claim_file::FileRun;
 use claim_file::MaybeDates;
 use claim_file::WindowDates;
 use claim_file::blocks;
 use claim_file::run::run_file;
+use claim_months::Claim;
 use study::Study;
 use study::Sums;
 use test_support::lists::counting;
@@ -84,7 +85,7 @@ fn put_file(letter: u8, table: &[u32]) {
 
 fn put_files(table: &[u32]) {
     let mut letter = b'a';
-    while letter < b'y' {
+    while letter < b'z' {
         put_file(letter, table);
         letter += 1;
     }
@@ -140,6 +141,18 @@ fn put_refused(block: Block) {
     put_end();
 }
 
+fn put_benefit(claim: Claim) {
+    put_next(claim.benefit as u64);
+}
+
+// The benefits of a block's first three claims.
+fn put_benefits(block: Block) {
+    let claims = block.claims;
+    put_benefit(claims[0]);
+    put_benefit(claims[1]);
+    put_benefit(claims[2]);
+}
+
 // A block's check at numbers 0 to 2, what reading finds, and the block written again against the first.
 fn put_block(bytes: &[u8], out: &mut [u8]) {
     put_next(blocks::check(bytes, 0) as u64);
@@ -149,6 +162,7 @@ fn put_block(bytes: &[u8], out: &mut [u8]) {
     let block = found.block;
     put_next(found.refused as u64);
     put_next(block.count as u64);
+    put_benefits(block);
     put_next(blocks::write(1, block, out) as u64);
     put_next(differences(bytes, out));
     put_end();
@@ -245,5 +259,6 @@ fn main() {
     put_blocks(b'g');
     put_blocks(b'k');
     put_blocks(b'x');
+    put_blocks(b'y');
     put_wide(&mut [0u32; 246206]);
 }

@@ -7,5 +7,5 @@ use Rattle.claim_file_test.proofs.put_files.Tie as tie
 pub put-files-spec : {M : Type 1} → statement M
 put-files-spec =
     tie.close
-    (tie.spec (λ _ _ letter. letter ≤ 121) (λ _ _ letter. 121 - letter) (λ c. search needs) (λ c κs. search needs)
+    (tie.spec (λ _ _ letter. letter ≤ 122) (λ _ _ letter. 122 - letter) (λ c. search needs) (λ c κs. search needs)
     (λ c. search needs) (λ c. search needs) (λ c. search needs) (λ c. search needs))

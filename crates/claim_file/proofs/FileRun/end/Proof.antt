@@ -1,8 +1,7 @@
 -- `FileRun::end` meets its contract. Assumes nothing.
 use mathlib.Core.Bool.{and-false}
-use borrow.Author.Needs.{needs}
 use borrow.Author.Tests.{eq-eqb, ne-eqb}
-use Rattle.claim_file.specs.Run.{ended}
+use Rattle.claim_file.specs.Run.{stops, ended}
 use Rattle.claim_file.proofs.FileRun.end.Statement.{statement}
 use Rattle.claim_file.proofs.FileRun.end.Tie as tie
 
@@ -15,9 +14,8 @@ unfolding ended
 returns-2 c = simp (ne-eqb _ _ (c .if2 .taken), and-false)
 
 returns-3 : tie.Need-returns-3
-unfolding ended
-returns-3 c = rw (eq-eqb _ _ (c .before .before .before .before .if1 .left), eq-eqb _ _ (c .before .before .if2 .left)) (c .stopped .ensures)
+unfolding ended stops
+returns-3 c = rw (eq-eqb _ _ (c .before .before .before .if1 .left), eq-eqb _ _ (c .before .if2 .left))
 
 pub end-spec : {M : Type 1} → statement M
-end-spec = tie.close
-    (tie.spec returns returns-2 (λ c κs. search needs) returns-3)
+end-spec = tie.close (tie.spec returns returns-2 returns-3)

@@ -1,4 +1,4 @@
--- `put_claim` meets its contract: number, dates, status, code, cell and the zeros, one run after another. Assumes nothing.
+-- `put_claim` meets its contract: number, dates, status, code, cell, benefit and the zeros, one run after another. Assumes nothing.
 use native.Mathlib.Omega.{arith}
 use borrow.Author.Needs.{needs}
 use mathlib.Core.Path.{refl, ap, _∙_}
@@ -19,8 +19,11 @@ slice-write-bytes-2 c = simp length-set (omega arith)
 put-two-requires : tie.Need-put-two-requires
 put-two-requires c κs = simp length-set (omega arith)
 
+slice-write-bytes-3 : tie.Need-slice-write-bytes-3
+slice-write-bytes-3 c = omega (arith, simp length-set at (c .before .before .put-two .kept))
+
 put-zeros-requires : tie.Need-put-zeros-requires
-put-zeros-requires c κs = omega (arith, simp length-set at (c .before .before .before .put-two .kept))
+put-zeros-requires c κs = simp length-set (omega (arith, simp length-set at (c .before .before .before .put-two .kept)))
 
 returns : tie.Need-returns
 unfolding claimBytes zeros
@@ -37,8 +40,11 @@ returns c =
     let r2 = run (s .bytes .now) _ _ (n ++ ds) (k .status ∷ []) (s .at) (s .at + 20) refl r1 refl in
     let r3 = run (s .bytes .now) _ _ (n ++ (ds ++ (k .status ∷ []))) (k .code ∷ []) (s .at) (s .at + 21) refl r2 refl in
     let r4 = run (s .bytes .now) _ _ (n ++ (ds ++ (k .status ∷ k .code ∷ []))) (two (k .cell)) (s .at) (s .at + 22) refl r3 (t .put-two .ensures) in
-    run (s .bytes .now) _ _ (n ++ (ds ++ (k .status ∷ k .code ∷ two (k .cell)))) (zeros 8) (s .at) (s .at + 24) refl r4 (z .put-zeros .ensures)
-    ∙ ap (λ (b : List ℕ). sets (s .bytes .now) (s .at) (b ++ (ds ++ (k .status ∷ k .code ∷ (two (k .cell) ++ zeros 8))))) (four-bytes (k .number))
+    let r5 = run (s .bytes .now) _ _ (n ++ (ds ++ (k .status ∷ k .code ∷ two (k .cell)))) (k .benefit ∷ []) (s .at) (s .at + 24) refl r4 refl in
+    run (s .bytes .now) _ _ (n ++ (ds ++ (k .status ∷ k .code ∷ (two (k .cell) ++ (k .benefit ∷ []))))) (zeros 7) (s .at) (s .at + 25) refl r5
+    (z .put-zeros .ensures)
+    ∙ ap (λ (b : List ℕ). sets (s .bytes .now) (s .at) (b ++ (ds ++ (k .status ∷ k .code ∷ (two (k .cell) ++ (k .benefit ∷ zeros 7))))))
+    (four-bytes (k .number))
 
 same-length : tie.Need-same-length
 same-length c = let s = c .before .before .before .before .before .before .before .before .before .before .before .before .before .before .before .before .before .args in ap length (returns c) ∙ length-sets (s .bytes .now) (s .at) (claimBytes (s .claim))
@@ -47,4 +53,5 @@ pub put-claim-spec : {M : Type 1} → statement M
 put-claim-spec =
     tie.close
     (tie.spec (λ c κs. search needs) (λ c. search needs) (λ c κs. search needs) (λ c. search needs) (λ c. search needs) (λ c. search needs)
-    slice-write-bytes-2 (λ c. search needs) put-two-requires (λ c. search needs) put-zeros-requires same-length returns)
+    slice-write-bytes-2 (λ c. search needs) put-two-requires (λ c. search needs) slice-write-bytes-3 (λ c. search needs)
+    put-zeros-requires same-length returns)
