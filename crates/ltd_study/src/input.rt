@@ -7,6 +7,8 @@ ghost use lib.Seq.{sets};
 ghost use Rattle.claim_file.specs.Bytes.{fourAt};
 ghost use Rattle.ltd_study.specs.Input.{blockRates};
 use claim_file::FileRun;
+use claim_file::LentRun;
+use claim_file::run::feed_lent;
 use libc::STDIN_FILENO;
 use rates::Kind;
 use rates::prepared::prepare;
@@ -113,12 +115,38 @@ fn read_rates(fd: i32, table: &mut [u32; 15329]) -> usize
     }
 }
 
-// The run with the first bytes of a block fed.
-fn feed_bytes(run: FileRun, table: &[u32], block: &[u8; 512], count: usize) -> FileRun
+// The run with the first bytes of a block fed, its sums lent.
+fn feed_bytes(
+    run: LentRun,
+    table: &[u32],
+    block: &[u8; 512],
+    count: usize,
+    thirtieths: &mut [i64; 5],
+    closings: &mut [u32; 25],
+    recoveries: &mut [i64; 5],
+    deaths: &mut [i64; 5],
+    weighted_thirtieths: &mut [i64; 5],
+    weighted_closings: &mut [u32; 25],
+    weighted_recoveries: &mut [i64; 5],
+    weighted_deaths: &mut [i64; 5],
+) -> LentRun
     requires { ⌜ count ≤ 512 ⌝ }
 {
     let bytes: &[u8] = block;
-    run.feed_with(Kind::Prepared, table, &bytes[0..count])
+    feed_lent(
+        Kind::Prepared,
+        table,
+        &bytes[0..count],
+        run,
+        thirtieths,
+        closings,
+        recoveries,
+        deaths,
+        weighted_thirtieths,
+        weighted_closings,
+        weighted_recoveries,
+        weighted_deaths,
+    )
 }
 
 // How many bytes of a block are fed. A failed read must not look like the end of the file, so it counts as a part block.
@@ -133,14 +161,35 @@ fn fed_count(filled: Filled) -> usize
 }
 
 // The file run of standard input, block by block. A proved loop has to end, and nothing says that the input does: the loop counts its
-// turns down, from a number that no run uses up. One run is kept: a second one would be a copy on the stack.
+// turns down, from a number that no run uses up. The sums stand here and are lent: a run that had them would be a copy on the stack with each block.
 fn run_input(table: &[u32]) -> FileRun {
-    let mut run = FileRun::start();
+    let mut thirtieths = [0i64; 5];
+    let mut closings = [0u32; 25];
+    let mut recoveries = [0i64; 5];
+    let mut deaths = [0i64; 5];
+    let mut weighted_thirtieths = [0i64; 5];
+    let mut weighted_closings = [0u32; 25];
+    let mut weighted_recoveries = [0i64; 5];
+    let mut weighted_deaths = [0i64; 5];
+    let mut run = LentRun::start();
     let mut block = [0u8; 512];
     let mut turns = u64::MAX;
     while turns > 0 {
         let count = fed_count(fill_block(STDIN_FILENO, &mut block));
-        run = feed_bytes(run, table, &block, count);
+        run = feed_bytes(
+            run,
+            table,
+            &block,
+            count,
+            &mut thirtieths,
+            &mut closings,
+            &mut recoveries,
+            &mut deaths,
+            &mut weighted_thirtieths,
+            &mut weighted_closings,
+            &mut weighted_recoveries,
+            &mut weighted_deaths,
+        );
         if run.refused != 0 {
             break;
         }
@@ -149,6 +198,16 @@ fn run_input(table: &[u32]) -> FileRun {
         }
         turns -= 1;
     }
+    let run = run.with_sums(
+        thirtieths,
+        closings,
+        recoveries,
+        deaths,
+        weighted_thirtieths,
+        weighted_closings,
+        weighted_recoveries,
+        weighted_deaths,
+    );
     run.end()
 }
 
