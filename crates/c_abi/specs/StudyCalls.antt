@@ -9,6 +9,7 @@ use lib.IntN.{ℤ, pos, negsuc, natAbs}
 use Rattle.basics.specs.Pick.{pick}
 use Rattle.basics.specs.Tables.{table}
 use Rattle.study.specs.declared.Study.{Study}
+use Rattle.study.specs.declared.Sums.{Sums}
 use Rattle.study.specs.declared.Answer.{Answer}
 use Rattle.study.specs.Study.{added}
 use Rattle.claim_file.specs.declared.MaybeClaim.{MaybeClaim}
@@ -21,18 +22,29 @@ unfoldable pub isWord : ℤ → Bool
 isWord (pos n) = leb n 4294967295
 isWord (negsuc n) = false
 
--- where the closing count at a place of the study's 25 stands in its list, and that the first n of them are numbers of 32 bits
-unfoldable pub closingAt : ℕ → ℕ
-closingAt k = 4 + 8 * (k / 5) + k % 5
+-- where the closing count at a place of the 25 stands in a list whose sums start at a place, and that the first n of them are numbers of 32 bits
+unfoldable pub closingAt : ℕ → ℕ → ℕ
+closingAt from k = from + 1 + 8 * (k / 5) + k % 5
 
-unfoldable pub countsAreWords : List ℤ → ℕ → Bool
-countsAreWords xs zero = true
-countsAreWords xs (suc n) = countsAreWords xs n && isWord (getD xs (closingAt n) (pos 0))
+unfoldable pub countsAreWords : List ℤ → ℕ → ℕ → Bool
+countsAreWords xs from zero = true
+countsAreWords xs from (suc n) = countsAreWords xs from n && isWord (getD xs (closingAt from n) (pos 0))
 
--- a list that has the form of a study: 43 numbers or more, days, claims taken and closing counts of 32 bits
+-- a list that has the form of a study: 83 numbers or more, days, claims taken, closing counts and weighted closing sums of 32 bits
 unfoldable pub studyForm : List ℤ → Bool
 studyForm xs =
-    leb 43 (length xs) && isWord (getD xs 0 (pos 0)) && isWord (getD xs 1 (pos 0)) && isWord (getD xs 2 (pos 0)) && countsAreWords xs 25
+    leb 83 (length xs) && isWord (getD xs 0 (pos 0)) && isWord (getD xs 1 (pos 0)) && isWord (getD xs 2 (pos 0)) && countsAreWords xs 3 25
+    && countsAreWords xs 43 25
+
+-- the sums that stand in a list from a place on
+unfoldable pub sumsIn : List ℤ → ℕ → Sums
+sumsIn xs from =
+    record {
+      thirtieths = table 5 (λ k. getD xs (from + 8 * k) (pos 0));
+      closings = table 25 (λ k. natAbs (getD xs (closingAt from k) (pos 0)));
+      recoveries = table 5 (λ k. getD xs (from + 6 + 8 * k) (pos 0));
+      deaths = table 5 (λ k. getD xs (from + 7 + 8 * k) (pos 0));
+    }
 
 -- the study that such a list holds
 unfoldable pub studyIn : List ℤ → Study
@@ -40,13 +52,8 @@ studyIn xs =
     record {
       window = record { first = record { 0 = natAbs (getD xs 0 (pos 0)) }; last = record { 0 = natAbs (getD xs 1 (pos 0)) } };
       taken = natAbs (getD xs 2 (pos 0));
-      sums =
-          record {
-            thirtieths = table 5 (λ k. getD xs (3 + 8 * k) (pos 0));
-            closings = table 25 (λ k. natAbs (getD xs (closingAt k) (pos 0)));
-            recoveries = table 5 (λ k. getD xs (9 + 8 * k) (pos 0));
-            deaths = table 5 (λ k. getD xs (10 + 8 * k) (pos 0));
-          };
+      sums = sumsIn xs 3;
+      weighted = sumsIn xs 43;
     }
 
 -- adding the claim of a record: 255 where the list has no record

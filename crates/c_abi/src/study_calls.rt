@@ -1,4 +1,4 @@
-// The calls that open a study and add a claim to it. A study is a lent list of 43 numbers, a claim the record of a claim file.
+// The calls that open a study and add a claim to it. A study is a lent list of 83 numbers, a claim the record of a claim file.
 ghost use mathlib.Core.Path.{_≡_};
 ghost use mathlib.Core.Bool.{true};
 ghost use Prim.Native.Nat.{_+_, _*_, _≤_};
@@ -11,7 +11,7 @@ ghost use Rattle.study.specs.Study.{opened};
 ghost use Rattle.study_list.specs.Lent.{answered, stored};
 ghost use Rattle.study_list.specs.StudyList.{studyNumbers};
 ghost use Rattle.c_abi.specs.Abi.{dateIn};
-ghost use Rattle.c_abi.specs.StudyCalls.{isWord, closingAt, countsAreWords, studyForm, studyIn, addAnswer, addAfter};
+ghost use Rattle.c_abi.specs.StudyCalls.{isWord, closingAt, countsAreWords, studyForm, sumsIn, studyIn, addAnswer, addAfter};
 use crate::listing::date_in;
 use calendar::Day;
 use claim_file::MaybeClaim;
@@ -38,23 +38,25 @@ fn word(x: i64) -> u32
     x as u32
 }
 
-// Where the closing count at a place of the 25 stands in a study's list.
-fn closing_at(place: usize) -> usize
+// Where the closing count at a place of the 25 stands in a list whose sums start at a place.
+fn closing_at(from: usize, place: usize) -> usize
+    requires { ⌜ from ≤ 43 ⌝ }
     requires { ⌜ place ≤ 24 ⌝ }
-    ensures { λ r. ⌜ r ≡ closingAt place ⌝ }
+    ensures { λ r. ⌜ r ≡ closingAt from place ⌝ }
 {
-    4 + 8 * (place / 5) + place % 5
+    from + 1 + 8 * (place / 5) + place % 5
 }
 
-// Whether every closing count is a number of 32 bits.
-fn counts_are_words(list: &[i64]) -> bool
-    requires { ⌜ 43 ≤ length (now list) ⌝ }
-    ensures { λ r. ⌜ r ≡ countsAreWords (now (list .entry)) 25 ⌝ }
+// Whether every closing count of the sums from a place on is a number of 32 bits.
+fn counts_are_words(list: &[i64], from: usize) -> bool
+    requires { ⌜ from ≤ 43 ⌝ }
+    requires { ⌜ from + 40 ≤ length (now list) ⌝ }
+    ensures { λ r. ⌜ r ≡ countsAreWords (now (list .entry)) from 25 ⌝ }
 {
     let mut left = 25;
     while left > 0 {
         left -= 1;
-        let at = closing_at(left);
+        let at = closing_at(from, left);
         let count = list[at];
         if !is_word(count) {
             return false;
@@ -67,7 +69,7 @@ fn counts_are_words(list: &[i64]) -> bool
 fn is_study(list: &[i64]) -> bool
     ensures { λ r. ⌜ r ≡ studyForm (now (list .entry)) ⌝ }
 {
-    if list.len() < 43 {
+    if list.len() < 83 {
         return false;
     }
     let first = list[0];
@@ -82,7 +84,10 @@ fn is_study(list: &[i64]) -> bool
     if !is_word(taken) {
         return false;
     }
-    counts_are_words(list)
+    if !counts_are_words(list, 3) {
+        return false;
+    }
+    counts_are_words(list, 43)
 }
 
 // One number of each group, from that of group 1 on.
@@ -100,21 +105,37 @@ fn group_numbers(list: &[i64], from: usize) -> [i64; 5]
     numbers
 }
 
-// The closing counts of a study's list.
-fn closing_counts(list: &[i64]) -> [u32; 25]
-    requires { ⌜ 43 ≤ length (now list) ⌝ }
-    requires { ⌜ countsAreWords (now list) 25 ≡ true ⌝ }
-    ensures { λ r. ⌜ r ≡ table 25 (λ k. natAbs (getD (now (list .entry)) (closingAt k) (pos 0))) ⌝ }
+// The closing counts of the sums that stand in a list from a place on.
+fn closing_counts(list: &[i64], from: usize) -> [u32; 25]
+    requires { ⌜ from ≤ 43 ⌝ }
+    requires { ⌜ from + 40 ≤ length (now list) ⌝ }
+    requires { ⌜ countsAreWords (now list) from 25 ≡ true ⌝ }
+    ensures { λ r. ⌜ r ≡ table 25 (λ k. natAbs (getD (now (list .entry)) (closingAt from k) (pos 0))) ⌝ }
 {
     let mut counts = [0; 25];
     let mut k = 0;
     while k < 25 {
-        let at = closing_at(k);
+        let at = closing_at(from, k);
         let count = list[at];
         counts[k] = word(count);
         k += 1;
     }
     counts
+}
+
+// The sums that stand in a list from a place on.
+fn sums_in(list: &[i64], from: usize) -> Sums
+    requires { ⌜ from ≤ 43 ⌝ }
+    requires { ⌜ from + 40 ≤ length (now list) ⌝ }
+    requires { ⌜ countsAreWords (now list) from 25 ≡ true ⌝ }
+    ensures { λ r. ⌜ r ≡ sumsIn (now (list .entry)) from ⌝ }
+{
+    Sums {
+        thirtieths: group_numbers(list, from),
+        closings: closing_counts(list, from),
+        recoveries: group_numbers(list, from + 6),
+        deaths: group_numbers(list, from + 7),
+    }
 }
 
 // The study that a list holds.
@@ -125,29 +146,24 @@ fn study_in(list: &[i64]) -> Study
     let first = list[0];
     let last = list[1];
     let taken = list[2];
-    let sums = Sums {
-        thirtieths: group_numbers(list, 3),
-        closings: closing_counts(list),
-        recoveries: group_numbers(list, 9),
-        deaths: group_numbers(list, 10),
-    };
     Study {
         window: Window {
             first: Day(word(first)),
             last: Day(word(last)),
         },
         taken: word(taken),
-        sums,
+        sums: sums_in(list, 3),
+        weighted: sums_in(list, 43),
     }
 }
 
 // Opens a study.
 #[no_mangle]
 pub extern "C" fn ltd_open(first: u32, last: u32, study: &mut [i64]) -> u8
-    ensures { λ r. ⌜ r ≡ answered 43 (now (study .entry)) (opened (dateIn first) (dateIn last) .refused) ⌝ }
-    ensures { λ _. ⌜ now (study .exit) ≡ stored 43 (now (study .entry)) (sets (now (study .entry)) 0 (studyNumbers (opened (dateIn first) (dateIn last) .study))) ⌝ }
+    ensures { λ r. ⌜ r ≡ answered 83 (now (study .entry)) (opened (dateIn first) (dateIn last) .refused) ⌝ }
+    ensures { λ _. ⌜ now (study .exit) ≡ stored 83 (now (study .entry)) (sets (now (study .entry)) 0 (studyNumbers (opened (dateIn first) (dateIn last) .study))) ⌝ }
 {
-    if study.len() < 43 {
+    if study.len() < 83 {
         return 255;
     }
     let answer = Study::open(date_in(first), date_in(last));

@@ -15,15 +15,15 @@ use Rattle.study_list.proofs.Lent.{in-room}
 use Rattle.c_file.specs.FileCalls.{runNumbers}
 
 -- three numbers, and a study behind them where there is room for it
-pub three-and-study : (old l rest : List ℤ) (x y z x′ y′ z′ : ℤ) → 46 ≤ length old → x ≡ x′ → y ≡ y′ → z ≡ z′
-    → l ≡ pick (leb 46 (length (sets old 0 (x ∷ y ∷ z ∷ [])))) (sets (sets old 0 (x ∷ y ∷ z ∷ [])) 3 rest) (sets old 0 (x ∷ y ∷ z ∷ []))
+pub three-and-study : (old l rest : List ℤ) (x y z x′ y′ z′ : ℤ) → 86 ≤ length old → x ≡ x′ → y ≡ y′ → z ≡ z′
+    → l ≡ pick (leb 86 (length (sets old 0 (x ∷ y ∷ z ∷ [])))) (sets (sets old 0 (x ∷ y ∷ z ∷ [])) 3 rest) (sets old 0 (x ∷ y ∷ z ∷ []))
     → l ≡ sets old 0 (x′ ∷ y′ ∷ z′ ∷ rest)
 three-and-study old l rest x y z x′ y′ z′ h px py pz p =
     let first : List ℤ = sets old 0 (x ∷ y ∷ z ∷ []) in
     let n = length-sets old 0 (x ∷ y ∷ z ∷ []) in
-    let long : 46 ≤ length first = omega arith in
-    in-room 46 first (sets first 3 rest) l long p ∙ (λ i. sets old 0 (px i ∷ py i ∷ pz i ∷ rest))
+    let long : 86 ≤ length first = omega arith in
+    in-room 86 first (sets first 3 rest) l long p ∙ (λ i. sets old 0 (px i ∷ py i ∷ pz i ∷ rest))
 
-pub run-stored : (old l : List ℤ) (n : ℕ) (m r : FileRun) → m ≡ r → n ≡ answered 46 old (m .refused) → l ≡ stored 46 old (sets old 0 (runNumbers m))
-    → (n ≡ answered 46 old (r .refused)) × (l ≡ stored 46 old (sets old 0 (runNumbers r)))
-run-stored old l n m r e p q = (p ∙ ap (λ (k : FileRun). answered 46 old (k .refused)) e, q ∙ ap (λ (k : FileRun). stored 46 old (sets old 0 (runNumbers k))) e)
+pub run-stored : (old l : List ℤ) (n : ℕ) (m r : FileRun) → m ≡ r → n ≡ answered 86 old (m .refused) → l ≡ stored 86 old (sets old 0 (runNumbers m))
+    → (n ≡ answered 86 old (r .refused)) × (l ≡ stored 86 old (sets old 0 (runNumbers r)))
+run-stored old l n m r e p q = (p ∙ ap (λ (k : FileRun). answered 86 old (k .refused)) e, q ∙ ap (λ (k : FileRun). stored 86 old (sets old 0 (runNumbers k))) e)

@@ -16,10 +16,10 @@ use study_list::signed;
 
 // Stores number, block and place of a run, and its study, and answers the number.
 fn put_run(run: FileRun, out: &mut [i64]) -> u8
-    ensures { λ r. ⌜ r ≡ answered 46 (now (out .entry)) (run .refused) ⌝ }
-    ensures { λ _. ⌜ now (out .exit) ≡ stored 46 (now (out .entry)) (sets (now (out .entry)) 0 (runNumbers run)) ⌝ }
+    ensures { λ r. ⌜ r ≡ answered 86 (now (out .entry)) (run .refused) ⌝ }
+    ensures { λ _. ⌜ now (out .exit) ≡ stored 86 (now (out .entry)) (sets (now (out .entry)) 0 (runNumbers run)) ⌝ }
 {
-    if out.len() < 46 {
+    if out.len() < 86 {
         return 255;
     }
     let study = run.study;
@@ -33,8 +33,8 @@ fn put_run(run: FileRun, out: &mut [i64]) -> u8
 // The study of a whole claim file.
 #[no_mangle]
 pub extern "C" fn ltd_file_study(file: &[u8], rates: &[u32], out: &mut [i64]) -> u8
-    ensures { λ r. ⌜ r ≡ answered 46 (now (out .entry)) (fileRun (now (rates .entry)) (now (file .entry)) .refused) ⌝ }
-    ensures { λ _. ⌜ now (out .exit) ≡ stored 46 (now (out .entry)) (sets (now (out .entry)) 0 (runNumbers (fileRun (now (rates .entry)) (now (file .entry))))) ⌝ }
+    ensures { λ r. ⌜ r ≡ answered 86 (now (out .entry)) (fileRun (now (rates .entry)) (now (file .entry)) .refused) ⌝ }
+    ensures { λ _. ⌜ now (out .exit) ≡ stored 86 (now (out .entry)) (sets (now (out .entry)) 0 (runNumbers (fileRun (now (rates .entry)) (now (file .entry))))) ⌝ }
 {
     put_run(claim_file::run::run_file(rates, file), out)
 }
@@ -51,8 +51,8 @@ pub extern "C" fn ltd_prepare(table: &mut [u32]) -> u8
 // The study of a whole claim file with a prepared table.
 #[no_mangle]
 pub extern "C" fn ltd_prepared_file_study(file: &[u8], table: &[u32], out: &mut [i64]) -> u8
-    ensures { λ r. ⌜ r ≡ answered 46 (now (out .entry)) (fileRunWith (addingWith Prepared (now (table .entry))) (now (file .entry)) .refused) ⌝ }
-    ensures { λ _. ⌜ now (out .exit) ≡ stored 46 (now (out .entry)) (sets (now (out .entry)) 0 (runNumbers (fileRunWith (addingWith Prepared (now (table .entry))) (now (file .entry))))) ⌝ }
+    ensures { λ r. ⌜ r ≡ answered 86 (now (out .entry)) (fileRunWith (addingWith Prepared (now (table .entry))) (now (file .entry)) .refused) ⌝ }
+    ensures { λ _. ⌜ now (out .exit) ≡ stored 86 (now (out .entry)) (sets (now (out .entry)) 0 (runNumbers (fileRunWith (addingWith Prepared (now (table .entry))) (now (file .entry))))) ⌝ }
 {
     put_run(claim_file::run::run_with(Kind::Prepared, table, file), out)
 }

@@ -70,10 +70,13 @@ pub groups-more : (s : Sums) (n : ℕ) → groupsNumbers s n ++ groupNumbers (gr
 unfolding groupsNumbers
 groups-more s n = let e : suc n ≡ n + 1 = omega arith in ap (groupsNumbers s) e
 
--- three numbers, and a run behind them
-pub three-and : (l a b d e rest : List ℤ) (at : ℕ) (x y z x′ y′ z′ : ℤ) → x ≡ x′ → y ≡ y′ → z ≡ z′ → a ≡ sets l at (x ∷ []) → b ≡ sets a (at + 1) (y ∷ [])
-    → d ≡ sets b (at + 2) (z ∷ []) → e ≡ sets d (at + 3) rest → e ≡ sets l at (x′ ∷ y′ ∷ z′ ∷ rest)
-three-and l a b d e rest at x y z x′ y′ z′ px py pz p q u v =
+-- three numbers, and two runs behind them
+pub three-and : (l a b d e f rest more : List ℤ) (at : ℕ) (x y z x′ y′ z′ : ℤ) → length rest ≡ 40 → x ≡ x′ → y ≡ y′ → z ≡ z′ → a ≡ sets l at (x ∷ [])
+    → b ≡ sets a (at + 1) (y ∷ []) → d ≡ sets b (at + 2) (z ∷ []) → e ≡ sets d (at + 3) rest → f ≡ sets e (at + 43) more
+    → f ≡ sets l at (x′ ∷ y′ ∷ z′ ∷ (rest ++ more))
+three-and l a b d e f rest more at x y z x′ y′ z′ n px py pz p q u v w =
     let s1 = run l a b (x ∷ []) (y ∷ []) at (at + 1) refl p q in
     let s2 = run l b d (x ∷ y ∷ []) (z ∷ []) at (at + 2) refl s1 u in
-    run l d e (x ∷ y ∷ z ∷ []) rest at (at + 3) refl s2 v ∙ (λ i. sets l at (px i ∷ py i ∷ pz i ∷ rest))
+    let s3 = run l d e (x ∷ y ∷ z ∷ []) rest at (at + 3) refl s2 v in
+    let k : at + length (x ∷ y ∷ z ∷ rest) ≡ at + 43 = ap (λ (m : ℕ). at + suc (suc (suc m))) n in
+    run l e f (x ∷ y ∷ z ∷ rest) more at (at + 43) (sym k) s3 w ∙ (λ i. sets l at (px i ∷ py i ∷ pz i ∷ (rest ++ more)))

@@ -1,4 +1,4 @@
--- A study as a list of 43 numbers.
+-- A study as a list of 83 numbers.
 use Prim.Native.Nat.{ℕ, zero, suc, _+_}
 use mathlib.Core.List.{List, [], _∷_, _++_}
 use lib.IntN.{ℤ, pos}
@@ -7,7 +7,8 @@ use Rattle.study.specs.declared.Sums.{Sums}
 use Rattle.study.specs.declared.Group.{Group}
 use Rattle.study.specs.Sums.{groupFigures}
 
--- the eight numbers of a group, those of the first n groups, and those of the whole study, 43
+-- the eight numbers of a group, those of the first n groups, and those of the whole study, 83: the
+-- weighted set (document 02, No. 7) stands behind the first, in the same order
 unfoldable pub countNumbers : List ℕ → List ℤ
 countNumbers [] = []
 countNumbers (x ∷ xs) = pos x ∷ countNumbers xs
@@ -20,4 +21,4 @@ groupsNumbers s zero = []
 groupsNumbers s (suc n) = groupsNumbers s n ++ groupNumbers (groupFigures s (n + 1))
 
 unfoldable pub studyNumbers : Study → List ℤ
-studyNumbers s = pos (s .window .first .0) ∷ pos (s .window .last .0) ∷ pos (s .taken) ∷ groupsNumbers (s .sums) 5
+studyNumbers s = pos (s .window .first .0) ∷ pos (s .window .last .0) ∷ pos (s .taken) ∷ (groupsNumbers (s .sums) 5 ++ groupsNumbers (s .weighted) 5)

@@ -1,4 +1,4 @@
-// A study as a list of 43 numbers, for the calls of C and Rust.
+// A study as a list of 83 numbers, for the calls of C and Rust.
 ghost use mathlib.Core.Path.{_≡_};
 ghost use Prim.Native.Nat.{_+_, _*_, _≤_, _<_};
 ghost use denote.Ref.{now};
@@ -63,28 +63,30 @@ fn put_groups(sums: Sums, at: usize, out: &mut [i64])
     }
 }
 
-// Stores a study's 43 numbers where they fit.
+// Stores a study's 83 numbers where they fit.
 fn store_study(study: Study, at: usize, out: &mut [i64])
-    requires { ⌜ at + 43 ≤ length (now out) ⌝ }
+    requires { ⌜ at + 83 ≤ length (now out) ⌝ }
     ensures { λ _. ⌜ now (out .exit) ≡ sets (now (out .entry)) at (studyNumbers study) ⌝ }
 {
     let sums = study.sums;
+    let weighted = study.weighted;
     put(signed(study.window.first.0), at, out);
     put(signed(study.window.last.0), at + 1, out);
     put(signed(study.taken), at + 2, out);
     put_groups(sums, at + 3, out);
+    put_groups(weighted, at + 43, out);
 }
 
-// Stores a study's 43 numbers from a place on, and answers whether they fit there; nothing is written where they don't.
+// Stores a study's 83 numbers from a place on, and answers whether they fit there; nothing is written where they don't.
 pub fn put_study(study: Study, at: usize, out: &mut [i64]) -> bool
-    ensures { λ r. ⌜ r ≡ leb (at + 43) (length (now (out .entry))) ⌝ }
-    ensures { λ _. ⌜ now (out .exit) ≡ pick (leb (at + 43) (length (now (out .entry)))) (sets (now (out .entry)) at (studyNumbers study)) (now (out .entry)) ⌝ }
+    ensures { λ r. ⌜ r ≡ leb (at + 83) (length (now (out .entry))) ⌝ }
+    ensures { λ _. ⌜ now (out .exit) ≡ pick (leb (at + 83) (length (now (out .entry)))) (sets (now (out .entry)) at (studyNumbers study)) (now (out .entry)) ⌝ }
 {
     let length = out.len();
-    if length < 43 {
+    if length < 83 {
         return false;
     }
-    if at > length - 43 {
+    if at > length - 83 {
         return false;
     }
     store_study(study, at, out);

@@ -14,7 +14,7 @@ use Rattle.c_file.proofs.put_run.Statement.{statement}
 use Rattle.c_file.proofs.put_run.Tie as tie
 
 returns : tie.Need-returns
-returns c = short 46 (c .before .args .out .now) _ _ (omega arith)
+returns c = short 86 (c .before .args .out .now) _ _ (omega arith)
 
 -- the list behind the last store
 numbers : (c : tie.After-out)
@@ -39,7 +39,7 @@ same-length c =
 returns-2 : tie.Need-returns-2
 returns-2 c =
     let a = c .before .before .before .before .before .before .before .before .before .before .args in
-    long 46 (a .out .now) _ _ _ _ (omega arith) refl (numbers c)
+    long 86 (a .out .now) _ _ _ _ (omega arith) refl (numbers c)
 
 pub put-run-spec : {M : Type 1} → statement M
 put-run-spec =

@@ -10,4 +10,4 @@ unfolding closingAt
 returns c = refl
 
 pub closing-at-spec : {M : Type 1} → statement M
-closing-at-spec = tie.close (tie.spec (λ c. search needs) (λ c. search needs) (λ c. search needs) returns)
+closing-at-spec = tie.close (tie.spec (λ c. search needs) (λ c. search needs) (λ c. search needs) (λ c. search needs) returns)

@@ -1,5 +1,5 @@
 -- `closing_counts` meets its contract. Invariant: the first k counts are those of the list. Assumes nothing.
-use Prim.Native.Nat.{ℕ, zero, suc, _-_, _≤_, _<_}
+use Prim.Native.Nat.{ℕ, zero, suc, _+_, _-_, _≤_, _<_}
 use mathlib.Core.Path.{_≡_, refl, ap, _∙_}
 use mathlib.Core.Bool.{true}
 use mathlib.Core.List.{List}
@@ -17,38 +17,38 @@ use Rattle.c_abi.proofs.study_calls.closing_counts.Statement.{statement
 use Rattle.c_abi.proofs.study_calls.closing_counts.Tie as tie
 
 abbrev Inv-loop : tie.InvT-loop
-Inv-loop list counts₀ k₀ counts k =
-    (k ≤ 25) × (length counts ≡ 25) × ((i : ℕ) → i < k → getD counts i 0 ≡ natAbs (getD list (closingAt i) (pos 0)))
+Inv-loop list from counts₀ k₀ counts k =
+    (k ≤ 25) × (length counts ≡ 25) × ((i : ℕ) → i < k → getD counts i 0 ≡ natAbs (getD list (closingAt from i) (pos 0)))
 
 abbrev μ-loop : tie.MeasureT-loop
-μ-loop list counts₀ k₀ counts k = 25 - k
+μ-loop list from counts₀ k₀ counts k = 25 - k
 
 loop-holds : tie.Need-loop-holds Inv-loop μ-loop
 loop-holds c = (omega arith, refl, λ i h. absurd (omega arith))
 
-place : (k n : ℕ) → n ≡ closingAt k → k < 25 → n < 43
+place : (from k n : ℕ) → n ≡ closingAt from k → k < 25 → n < from + 40
 unfolding closingAt
-place k n e h = omega arith
+place from k n e h = omega arith
 
 -- each of the first n counts is a number of 32 bits
-words-at : (xs : List ℤ) (n k : ℕ) → countsAreWords xs n ≡ true → k < n → isWord (getD xs (closingAt k) (pos 0)) ≡ true
+words-at : (xs : List ℤ) (from n k : ℕ) → countsAreWords xs from n ≡ true → k < n → isWord (getD xs (closingAt from k) (pos 0)) ≡ true
 unfolding countsAreWords
-words-at xs zero k e h = absurd (omega tests)
-words-at xs (suc n) k e h =
-    by (eqb k n) (λ _. isWord (getD xs (closingAt k) (pos 0)) ≡ true)
-    (λ q. let s : k ≡ n = omega tests in rw s (and-right (countsAreWords xs n) (isWord (getD xs (closingAt n) (pos 0))) e))
-    (λ q. words-at xs n k (and-left (countsAreWords xs n) (isWord (getD xs (closingAt n) (pos 0))) e) (omega tests))
+words-at xs from zero k e h = absurd (omega tests)
+words-at xs from (suc n) k e h =
+    by (eqb k n) (λ _. isWord (getD xs (closingAt from k) (pos 0)) ≡ true)
+    (λ q. let s : k ≡ n = omega tests in rw s (and-right (countsAreWords xs from n) (isWord (getD xs (closingAt from n) (pos 0))) e))
+    (λ q. words-at xs from n k (and-left (countsAreWords xs from n) (isWord (getD xs (closingAt from n) (pos 0))) e) (omega tests))
 
 mul-count : tie.Need-mul-count Inv-loop μ-loop
-mul-count c = omega (arith, place _ _ (c .closing-at .ensures) (omega arith))
+mul-count c = omega (arith, place _ _ _ (c .closing-at .ensures) (omega arith))
 
 shared-slice-copy-out-count : tie.Need-shared-slice-copy-out-count Inv-loop μ-loop
-shared-slice-copy-out-count c = omega (arith, place _ _ (c .closing-at .ensures) (omega arith))
+shared-slice-copy-out-count c = omega (arith, place _ _ _ (c .closing-at .ensures) (omega arith))
 
 word-requires : tie.Need-word-requires Inv-loop μ-loop
 word-requires c κs =
     let s = c .before .before .before .before in
-    rw (toZ-ofZ {w = w64} (record { sfits = c .count .given }), c .before .closing-at .ensures) (words-at (s .args .list .now) 25 (c .before .before .before .loop .k) (s .pre .1) (omega arith))
+    rw (toZ-ofZ {w = w64} (record { sfits = c .count .given }), c .before .closing-at .ensures) (words-at (s .args .list .now) (s .args .from) 25 (c .before .before .before .loop .k) (s .pre .1 .1) (omega arith))
 
 loop-again : tie.Need-loop-again Inv-loop μ-loop
 loop-again c =

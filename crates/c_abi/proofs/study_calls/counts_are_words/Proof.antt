@@ -1,5 +1,5 @@
 -- `counts_are_words` meets its contract. The loop's invariant: the counts that are left decide. Assumes nothing.
-use Prim.Native.Nat.{ℕ, suc, _-_, _≤_, _<_}
+use Prim.Native.Nat.{ℕ, suc, _+_, _-_, _≤_, _<_}
 use mathlib.Core.Path.{_≡_, refl, sym, ap, _∙_}
 use mathlib.Core.Bool.{true, false, _&&_, and-false, and-true}
 use mathlib.Core.List.{List}
@@ -15,39 +15,39 @@ use Rattle.c_abi.proofs.study_calls.counts_are_words.Statement.{stateme
 use Rattle.c_abi.proofs.study_calls.counts_are_words.Tie as tie
 
 abbrev Inv-loop : tie.InvT-loop
-Inv-loop list left₀ left = (left ≤ 25) × (countsAreWords list 25 ≡ countsAreWords list left)
+Inv-loop list from left₀ left = (left ≤ 25) × (countsAreWords list from 25 ≡ countsAreWords list from left)
 
 abbrev μ-loop : tie.MeasureT-loop
-μ-loop list left₀ left = left
+μ-loop list from left₀ left = left
 
 -- the last of the counts that are left decides, or leaves it to those before it
-module _ (xs : List ℤ) (n : ℕ) (h : 0 < n) where
-  last : countsAreWords xs n ≡ (countsAreWords xs (n - 1) && isWord (getD xs (closingAt (n - 1)) (pos 0)))
+module _ (xs : List ℤ) (from n : ℕ) (h : 0 < n) where
+  last : countsAreWords xs from n ≡ (countsAreWords xs from (n - 1) && isWord (getD xs (closingAt from (n - 1)) (pos 0)))
   unfolding countsAreWords
-  last = let e : n ≡ suc (n - 1) = omega arith in ap (countsAreWords xs) e
+  last = let e : n ≡ suc (n - 1) = omega arith in ap (countsAreWords xs from) e
 
-  off : isWord (getD xs (closingAt (n - 1)) (pos 0)) ≡ false → countsAreWords xs n ≡ false
+  off : isWord (getD xs (closingAt from (n - 1)) (pos 0)) ≡ false → countsAreWords xs from n ≡ false
   off e = last ∙ rw (e, and-false)
 
-  on : isWord (getD xs (closingAt (n - 1)) (pos 0)) ≡ true → countsAreWords xs n ≡ countsAreWords xs (n - 1)
+  on : isWord (getD xs (closingAt from (n - 1)) (pos 0)) ≡ true → countsAreWords xs from n ≡ countsAreWords xs from (n - 1)
   on e = last ∙ rw (e, and-true)
 
 loop-holds : tie.Need-loop-holds Inv-loop μ-loop
 loop-holds c = (omega arith, refl)
 
-place : (k n : ℕ) → n ≡ closingAt k → k < 25 → n < 43
+place : (from k n : ℕ) → n ≡ closingAt from k → k < 25 → n < from + 40
 unfolding closingAt
-place k n e h = omega arith
+place from k n e h = omega arith
 
 mul-count : tie.Need-mul-count Inv-loop μ-loop
-mul-count c = omega (arith, place _ _ (c .closing-at .ensures) (omega arith))
+mul-count c = omega (arith, place _ _ _ (c .closing-at .ensures) (omega arith))
 
 shared-slice-copy-out-count : tie.Need-shared-slice-copy-out-count Inv-loop μ-loop
-shared-slice-copy-out-count c = omega (arith, place _ _ (c .closing-at .ensures) (omega arith))
+shared-slice-copy-out-count c = omega (arith, place _ _ _ (c .closing-at .ensures) (omega arith))
 
 -- what the test says of the count looked at
 tested : (c : tie.After-is-word Inv-loop μ-loop)
-    → c .is-word .result ≡ isWord (getD (c .before .before .before .before .before .args .list .now) (closingAt (c .before .before .before .before .loop .left - 1)) (pos 0))
+    → c .is-word .result ≡ isWord (getD (c .before .before .before .before .before .args .list .now) (closingAt (c .before .before .before .before .before .args .from) (c .before .before .before .before .loop .left - 1)) (pos 0))
 tested c =
     let k = c .before in
     let list = k .before .before .before .before .args .list .now in
@@ -57,20 +57,20 @@ returns : tie.Need-returns Inv-loop μ-loop
 returns c =
     let w = c .before in
     let l = w .before .before .before .before .loop in
-    sym (l .inv .1 ∙ off _ (l .left) (omega arith) (sym (tested w) ∙ not-true _ (c .if1 .taken)))
+    sym (l .inv .1 ∙ off _ _ (l .left) (omega arith) (sym (tested w) ∙ not-true _ (c .if1 .taken)))
 
 loop-again : tie.Need-loop-again Inv-loop μ-loop
 loop-again c =
     let w = c .before in
     let l = w .before .before .before .before .loop in
-    (omega arith, l .inv .1 ∙ on _ (l .left) (omega arith) (sym (tested w) ∙ not-false _ (c .if1 .left)))
+    (omega arith, l .inv .1 ∙ on _ _ (l .left) (omega arith) (sym (tested w) ∙ not-false _ (c .if1 .left)))
 
 returns-2 : tie.Need-returns-2 Inv-loop μ-loop
 unfolding countsAreWords
 returns-2 c =
     let l = c .before .loop in
     let e : l .left ≡ 0 = omega arith in
-    sym (l .inv .1 ∙ ap (countsAreWords _) e)
+    sym (l .inv .1 ∙ ap (countsAreWords _ _) e)
 
 pub counts-are-words-spec : {M : Type 1} → statement M
 counts-are-words-spec =

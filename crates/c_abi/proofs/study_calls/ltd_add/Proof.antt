@@ -41,7 +41,7 @@ returns-4 c =
     let g = c .before .before .before .before .before .before .before .before .before .before .before .before .before .before .before .before .before .before .args in
     taken (g .study .now) (g .claim .now) (g .rates .now) (formed (c .before .before .before .before .before .before .before .before .before .before .before .before .before)) _ (sym (r .read .given .1) ∙ r .before .before .read-record .ensures) (a .add .result)
     (a .add .ensures ∙ ap (λ (s : Study). added s (r .read .given .0 .0) (g .rates .now)) (a .before .study-in .ensures)) (omega (arith, c .before .before .before .before .if2 .left)) _
-    (in-room 43 (g .study .now) _ _ (form _ (formed (c .before .before .before .before .before .before .before .before .before .before .before .before .before)) .room) (c .before .put-study .ensures .1))
+    (in-room 83 (g .study .now) _ _ (form _ (formed (c .before .before .before .before .before .before .before .before .before .before .before .before .before)) .room) (c .before .put-study .ensures .1))
 
 pub ltd-add-spec : {M : Type 1} → statement M
 ltd-add-spec =

@@ -11,7 +11,7 @@ use Rattle.c_abi.proofs.study_calls.ltd_open.Statement.{statement}
 use Rattle.c_abi.proofs.study_calls.ltd_open.Tie as tie
 
 returns : tie.Need-returns
-returns c = short 43 (c .before .args .study .now) _ _ (omega arith)
+returns c = short 83 (c .before .args .study .now) _ _ (omega arith)
 
 returns-2 : tie.Need-returns-2
 returns-2 c =
@@ -19,7 +19,7 @@ returns-2 c =
     let e1 = o .before .before .before in
     let old = e1 .before .args .study .now in
     let e = o .open .ensures ∙ ap₂ opened (o .before .before .date-in .ensures) (o .before .date-in2 .ensures) in
-    long 43 old _ _ _ _ (omega arith) (ap (λ (a : Answer). a .refused) e) (in-room 43 old _ _ (omega arith) (c .before .put-study .ensures .1) ∙ ap (λ (a : Answer). sets old 0 (studyNumbers (a .study))) e)
+    long 83 old _ _ _ _ (omega arith) (ap (λ (a : Answer). a .refused) e) (in-room 83 old _ _ (omega arith) (c .before .put-study .ensures .1) ∙ ap (λ (a : Answer). sets old 0 (studyNumbers (a .study))) e)
 
 pub ltd-open-spec : {M : Type 1} → statement M
 ltd-open-spec =

@@ -23,32 +23,26 @@ shared-slice-copy-out-last c = omega (arith, formed (c .before) .room)
 shared-slice-copy-out-taken : tie.Need-shared-slice-copy-out-taken
 shared-slice-copy-out-taken c = omega (arith, formed (c .before .before) .room)
 
-group-numbers-requires : tie.Need-group-numbers-requires
-group-numbers-requires c κs = omega (arith, formed (c .before .before .before) .room)
-
-closing-counts-requires : tie.Need-closing-counts-requires
-closing-counts-requires c κs = let f = formed (c .before .before .before .before) in (f .room, f .counts)
-
-group-numbers-requires-2 : tie.Need-group-numbers-requires-2
-group-numbers-requires-2 c κs = omega (arith, formed (c .before .before .before .before .before) .room)
-
-group-numbers-requires-3 : tie.Need-group-numbers-requires-3
-group-numbers-requires-3 c κs = omega (arith, formed (c .before .before .before .before .before .before) .room)
-
 word-requires : tie.Need-word-requires
-word-requires c κs = let a = c .before .before .before .before .before .before in rw (toZ-ofZ {w = w64} (record { sfits = a .first .given })) (formed (a .before) .first)
+word-requires c κs = let a = c .before .before in rw (toZ-ofZ {w = w64} (record { sfits = a .first .given })) (formed (a .before) .first)
 
 word-requires-2 : tie.Need-word-requires-2
-word-requires-2 c κs = let a = c .before .before .before .before .before .before in rw (toZ-ofZ {w = w64} (record { sfits = a .last .given })) (formed (a .before .before) .last)
+word-requires-2 c κs = let a = c .before .before in rw (toZ-ofZ {w = w64} (record { sfits = a .last .given })) (formed (a .before .before) .last)
 
 word-requires-3 : tie.Need-word-requires-3
-word-requires-3 c κs = let a = c .before .before .before .before .before .before in rw (toZ-ofZ {w = w64} (record { sfits = a .taken .given })) (formed (a .before .before .before) .taken)
+word-requires-3 c κs = let a = c .before .before in rw (toZ-ofZ {w = w64} (record { sfits = a .taken .given })) (formed (a .before .before .before) .taken)
+
+sums-in-requires : tie.Need-sums-in-requires
+sums-in-requires c κs = let f = formed (c .before .before .before .before .before .before) in (omega arith, (omega (arith, f .room), f .counts))
+
+sums-in-requires-2 : tie.Need-sums-in-requires-2
+sums-in-requires-2 c κs = let f = formed (c .before .before .before .before .before .before .before) in (omega arith, (omega (arith, f .room), f .weighted-counts))
 
 returns : tie.Need-returns
 unfolding studyIn
 returns c =
-    let gn = c .before .before .before .before .before .before in
-    let t = gn .before in
+    let w1 = c .before .before .before .before in
+    let t = w1 .before in
     let l = t .before in
     let f = l .before in
     let list = f .before .args .list .now in
@@ -59,21 +53,16 @@ returns c =
     record {
       window =
           record {
-            first = record { 0 = (c .before .before .word .ensures ∙ ap natAbs first) i };
-            last = record { 0 = (c .before .word2 .ensures ∙ ap natAbs last) i };
+            first = record { 0 = (w1 .word .ensures ∙ ap natAbs first) i };
+            last = record { 0 = (c .before .before .before .word2 .ensures ∙ ap natAbs last) i };
           };
-      taken = (c .word3 .ensures ∙ ap natAbs taken) i;
-      sums =
-          record {
-            thirtieths = gn .group-numbers .ensures i;
-            closings = c .before .before .before .before .before .closing-counts .ensures i;
-            recoveries = c .before .before .before .before .group-numbers2 .ensures i;
-            deaths = c .before .before .before .group-numbers3 .ensures i;
-          };
+      taken = (c .before .before .word3 .ensures ∙ ap natAbs taken) i;
+      sums = c .before .sums-in .ensures i;
+      weighted = c .sums-in2 .ensures i;
     }
 
 pub study-in-spec : {M : Type 1} → statement M
 study-in-spec =
     tie.close
-    (tie.spec shared-slice-copy-out-first shared-slice-copy-out-last shared-slice-copy-out-taken group-numbers-requires closing-counts-requires
-    group-numbers-requires-2 group-numbers-requires-3 word-requires word-requires-2 word-requires-3 returns)
+    (tie.spec shared-slice-copy-out-first shared-slice-copy-out-last shared-slice-copy-out-taken word-requires word-requires-2 word-requires-3
+    sums-in-requires sums-in-requires-2 returns)
