@@ -6,7 +6,7 @@
 #include <stdio.h>
 
 #define BLOCK 512
-#define STUDY 43
+#define STUDY 83
 /* What an answer of 64 bits has above the number refused. */
 #define REFUSED ((uint64_t)1 << 32)
 /* Of 1,024 cells, the most that a table may have. */

@@ -24,30 +24,31 @@ struct ltd_claim {
     uint8_t status;
     uint8_t code;
     uint16_t cell;
-    uint8_t zero[8];
+    uint8_t benefit;
+    uint8_t zero[7];
 };
 
-/* Opens a study of the window first..last. A study is 43 numbers: first day number and last day number of the window, claims taken; then for
-   each group: thirtieths, five closing counts (recovery, death, settlement, max-out, limit), expected recoveries, expected deaths. Answers 0,
-   or 1 with the study of 1950-01-01 alone. 255 if study is shorter than 43; nothing is written then. */
+/* Opens a study of the window first..last. A study is 83 numbers: first day number and last day number of the window, claims taken; then for
+   each group: thirtieths, five closing counts (recovery, death, settlement, max-out, limit), expected recoveries, expected deaths; then for
+   each group the same eight of the weighted set, each claim's share multiplied by its benefit (1 for a benefit of 0). Answers 0, or 1 with
+   the study of 1950-01-01 alone. 255 if study is shorter than 83; nothing is written then. */
 uint8_t ltd_open(uint32_t first, uint32_t last, int64_t *study, size_t study_len);
 
-/* Adds a claim, the 32 bytes of its record, to a study. Answers 0 or the number refused (1 to 9), study untouched. 255, study untouched, if
-   study is shorter than 43 or has days, claims taken or a closing count outside 0 to 2^32 - 1, or if claim has fewer than 32 bytes or one
-   of its bytes 24 to 31 is not zero. */
+/* Adds a claim, the 32 bytes of its record, to a study. Answers 0 or the number refused (1 to 9, 16), study untouched. 255, study untouched,
+   if study is shorter than 83 or has days, claims taken, a closing count or a weighted closing sum outside 0 to 2^32 - 1, or if claim has
+   fewer than 32 bytes or one of its bytes 25 to 31 is not zero. */
 uint8_t ltd_add(int64_t *study, size_t study_len, const uint8_t *claim, size_t claim_len, const uint32_t *rates, size_t rates_len);
 
 /* The dates of block 0's window into dates (2 numbers). Answers 0 or 11, dates untouched. 255 if dates is shorter than 2. */
 uint8_t ltd_read_window(const uint8_t *block, size_t block_len, uint32_t *dates, size_t dates_len);
 
 /* The month records of a claim, the 32 bytes of its record, in the window first..last, six numbers each into list. Answers how many, or
-   2^32 + the number refused (1 to 5, 10), list untouched; 2^32 + 255 if claim has fewer than 32 bytes or one of its bytes 24 to 31 is not
-   zero. */
+   2^32 + the number refused (1 to 5, 10, 16), list untouched; 2^32 + 255 if claim has fewer than 32 bytes or one of its bytes 25 to 31 is
+   not zero. */
 uint64_t ltd_listing(uint32_t first, uint32_t last, const uint8_t *claim, size_t claim_len, int32_t *list, size_t list_len);
 
-/* The study of a whole claim file. Answers the number refused, or 0. Writes 46 numbers to out: number, block, claim place, first day
-   number and last day number of the window, claims taken; then for each group: thirtieths, five closing counts (recovery, death,
-   settlement, max-out, limit), expected recoveries, expected deaths. 255 if out is shorter than 46. */
+/* The study of a whole claim file. Answers the number refused, or 0. Writes 86 numbers to out: number, block, claim place, then the 83
+   numbers of the study. 255 if out is shorter than 86. */
 uint8_t ltd_file_study(const uint8_t *file, size_t file_len, const uint32_t *rates, size_t rates_len, int64_t *out, size_t out_len);
 
 /* Prepares a table of 958 x n + 1 numbers in place, n 1 to 1,024, the last one 0: the rates of each cell that is sound are replaced by their
@@ -56,7 +57,7 @@ uint8_t ltd_file_study(const uint8_t *file, size_t file_len, const uint32_t *rat
 uint8_t ltd_prepare(uint32_t *table, size_t table_len);
 
 /* The study of a whole claim file with a prepared table: as ltd_file_study with the rates that were prepared, and faster. Refusal 6 says
-   that the table is not a prepared one. 255 if out is shorter than 46. */
+   that the table is not a prepared one. 255 if out is shorter than 86. */
 uint8_t ltd_prepared_file_study(const uint8_t *file, size_t file_len, const uint32_t *table, size_t table_len, int64_t *out, size_t out_len);
 
 /* z, m and T of a group into out (3 numbers), T without any ceiling. Answers 0, or 12. 255 if out is shorter than 3. */
@@ -88,7 +89,7 @@ uint8_t ltd_reserve_limit(const uint32_t *rates, size_t rates_len, const uint32_
 uint64_t ltd_read_block(const uint8_t *block, size_t block_len, uint32_t due, uint8_t *claims, size_t claims_len);
 
 /* Writes a claim block of 0 to 15 claims, 32 bytes each, one record after the other, into block (512 bytes). Answers 0 or 11, block
-   untouched: a number of 0 or above 65,535, more than 15 claims, a part of a record at the end, a record whose bytes 24 to 31 are not all
+   untouched: a number of 0 or above 65,535, more than 15 claims, a part of a record at the end, a record whose bytes 25 to 31 are not all
    zero, a block that has not 512 bytes. */
 uint8_t ltd_write_block(uint32_t number, const uint8_t *claims, size_t claims_len, uint8_t *block, size_t block_len);
 

@@ -10,7 +10,7 @@ pub const MOST_IN_BLOCK: usize = 15;
 /// The most bytes that the records of a block take.
 pub const RECORDS_LENGTH: usize = MOST_IN_BLOCK * CLAIM_LENGTH;
 /// Where the bytes of a record that must be zero start.
-pub const ZEROS_AT: usize = 24;
+pub const ZEROS_AT: usize = 25;
 const COUNT_AT: usize = 2;
 const CLAIMS_AT: usize = 16;
 const WINDOW_END: usize = CLAIMS_AT + 8;
@@ -133,7 +133,7 @@ fn date_at(bytes: &[u8], at: usize) -> Date {
     Date::from_bytes(four(bytes, at))
 }
 
-/// The claim of a record, the first 32 bytes; none if there are fewer or one of the bytes 24 to 31 is not zero.
+/// The claim of a record, the first 32 bytes; none if there are fewer or one of the bytes 25 to 31 is not zero.
 pub fn read_claim(bytes: &[u8]) -> Option<Claim> {
     let bytes = bytes.get(..CLAIM_LENGTH)?;
     if !all_zero(&bytes[ZEROS_AT..]) {
@@ -148,6 +148,7 @@ pub fn read_claim(bytes: &[u8]) -> Option<Claim> {
         status: bytes[20],
         code: bytes[21],
         cell: u16::from_le_bytes([bytes[22], bytes[23]]),
+        benefit: bytes[24],
     })
 }
 
@@ -162,5 +163,6 @@ pub fn claim_record(claim: &Claim) -> [u8; CLAIM_LENGTH] {
     bytes[20] = claim.status;
     bytes[21] = claim.code;
     bytes[22..24].copy_from_slice(&claim.cell.to_le_bytes());
+    bytes[24] = claim.benefit;
     bytes
 }

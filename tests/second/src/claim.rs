@@ -1,4 +1,4 @@
-//! Claim: its fields, checks 2 to 5, elimination period, first duration and category.
+//! Claim: its fields, checks 2 to 5 and 16, elimination period, first duration, category and weight.
 
 use crate::calendar::{ClaimMonths, Date, Day};
 use crate::Refusal;
@@ -14,6 +14,9 @@ pub const CHANGE_OF_DEFINITION: u8 = 6;
 
 pub const OPEN: u8 = 0;
 pub const CLOSED: u8 = 1;
+
+/// The highest monthly benefit, in hundreds of dollars.
+pub const MOST_BENEFIT: u8 = 200;
 
 /// A duration since disability, in months.
 #[derive(Clone, Copy, Debug, PartialEq, Eq, PartialOrd, Ord)]
@@ -36,9 +39,11 @@ pub struct Claim {
     pub status: u8,
     pub code: u8,
     pub cell: u16,
+    /// The monthly benefit in hundreds of dollars.
+    pub benefit: u8,
 }
 
-/// A claim that passed checks 2 to 5.
+/// A claim that passed checks 2 to 5 and 16.
 #[derive(Clone, Copy, Debug)]
 pub struct CheckedClaim {
     pub bcd: Day,
@@ -47,6 +52,8 @@ pub struct CheckedClaim {
     /// Of a closed claim.
     pub termination: Option<Termination>,
     pub cell: u16,
+    /// What its share counts in the weighted set: the benefit, but 1 for a benefit of 0.
+    pub weight: u8,
 }
 
 #[derive(Clone, Copy, Debug)]
@@ -57,7 +64,7 @@ pub struct Termination {
 }
 
 impl Claim {
-    /// Checks 2 to 5, in the table's order.
+    /// Checks 2 to 5, in the table's order, and 16 between 4 and 5.
     pub fn check(&self) -> Result<CheckedClaim, Refusal> {
         // 2: a termination date is asked for in closed claims only.
         let disability = self.disability.day_number().ok_or(Refusal::Date)?;
@@ -86,6 +93,11 @@ impl Claim {
             return Err(Refusal::Sequence);
         }
 
+        // 16
+        if self.benefit > MOST_BENEFIT {
+            return Err(Refusal::Benefit);
+        }
+
         // 5
         let elimination_period = bcd - disability;
         if elimination_period < 15 {
@@ -102,15 +114,16 @@ impl Claim {
                 category: category(self.code, day, maximum),
             }),
             cell: self.cell,
+            weight: self.benefit.max(1),
         })
     }
 }
 
 impl fmt::Display for Claim {
     fn fmt(&self, f: &mut fmt::Formatter) -> fmt::Result {
-        let Claim { number, disability, bcd, termination, maximum, status, code, cell } = self;
+        let Claim { number, disability, bcd, termination, maximum, status, code, cell, benefit } = self;
         write!(f, "claim {number}: disability {disability}, BCD {bcd}, termination {termination}, maximum {maximum}, ")?;
-        write!(f, "status {status}, code {code}, cell {cell}")
+        write!(f, "status {status}, code {code}, cell {cell}, benefit {benefit}")
     }
 }
 

@@ -91,12 +91,12 @@ fn head_mut<T>(list: &mut [T]) -> *mut T {
     }
 }
 
-/// The study of a window into `study` (43 numbers).
+/// The study of a window into `study` (83 numbers).
 pub fn open(first: u32, last: u32, study: &mut [i64]) -> u8 {
     unsafe { c::ltd_open(first, last, head_mut(study), study.len()) }
 }
 
-/// A claim's record added to `study` (43 numbers).
+/// A claim's record added to `study` (83 numbers).
 pub fn add(study: &mut [i64], claim: &[u8], rates: &[u32]) -> u8 {
     unsafe { c::ltd_add(head_mut(study), study.len(), head(claim), claim.len(), head(rates), rates.len()) }
 }
@@ -111,7 +111,7 @@ pub fn listing(first: u32, last: u32, claim: &[u8], list: &mut [i32]) -> u64 {
     unsafe { c::ltd_listing(first, last, head(claim), claim.len(), head_mut(list), list.len()) }
 }
 
-/// The study of a whole claim file into `out` (46 numbers).
+/// The study of a whole claim file into `out` (86 numbers).
 pub fn file_study(file: &[u8], rates: &[u32], out: &mut [i64]) -> u8 {
     unsafe { c::ltd_file_study(head(file), file.len(), head(rates), rates.len(), head_mut(out), out.len()) }
 }
@@ -121,7 +121,7 @@ pub fn prepare(table: &mut [u32]) -> u8 {
     unsafe { c::ltd_prepare(head_mut(table), table.len()) }
 }
 
-/// The study of a whole claim file with a prepared table into `out` (46 numbers).
+/// The study of a whole claim file with a prepared table into `out` (86 numbers).
 pub fn prepared_file_study(file: &[u8], table: &[u32], out: &mut [i64]) -> u8 {
     unsafe { c::ltd_prepared_file_study(head(file), file.len(), head(table), table.len(), head_mut(out), out.len()) }
 }

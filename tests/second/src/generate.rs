@@ -2,7 +2,7 @@
 
 use crate::block::{seal, write_block, write_window, BLOCK_LENGTH, MOST_IN_BLOCK};
 use crate::calendar::{month_length, Date, Day};
-use crate::claim::{Claim, CHANGE_OF_DEFINITION, CLOSED, RECOVERY};
+use crate::claim::{Claim, CHANGE_OF_DEFINITION, CLOSED, MOST_BENEFIT, RECOVERY};
 use crate::examples::STUDY_WINDOW;
 use crate::rates::{CELL_LENGTH, DURATIONS};
 use crate::rng::Rng;
@@ -27,7 +27,13 @@ pub fn any_code(rng: &mut Rng) -> u8 {
     rng.range(RECOVERY as i64, CHANGE_OF_DEFINITION as i64) as u8
 }
 
-/// A claim that passes checks 2 to 5: anywhere in the calendar, in the study's years, near the end of a month, or around February.
+/// A benefit that passes check 16, often none, the least or the highest.
+pub fn any_benefit(rng: &mut Rng) -> u8 {
+    let any = rng.range(0, MOST_BENEFIT as i64) as u8;
+    rng.pick(&[0, 1, MOST_BENEFIT, any, any, any])
+}
+
+/// A claim that passes checks 2 to 5 and 16: anywhere in the calendar, in the study's years, near the end of a month, or around February.
 pub fn sound_claim(rng: &mut Rng) -> Claim {
     let year = rng.range(1951, 2099) as u16;
     let bcd = match rng.below(4) {
@@ -47,8 +53,14 @@ pub fn sound_claim(rng: &mut Rng) -> Claim {
         _ => rng.range(15, bcd.0 as i64) as i32,
     };
     let disability = Day((bcd.0 - elimination_period.min(bcd.0)).max(0));
-    let mut claim =
-        Claim { number: rng.bits() as u32, disability: disability.date(), bcd: bcd.date(), cell: any_cell(rng, 4), ..Claim::default() };
+    let mut claim = Claim {
+        number: rng.bits() as u32,
+        disability: disability.date(),
+        bcd: bcd.date(),
+        cell: any_cell(rng, 4),
+        benefit: any_benefit(rng),
+        ..Claim::default()
+    };
     let mut near = bcd;
     if !rng.one_in(3) {
         let longest = rng.pick(&[3, 62, 800, 6_000, Day::LAST.0]);
@@ -108,7 +120,7 @@ pub fn wild_date(rng: &mut Rng) -> Date {
 /// Damages one to three fields, which may leave the claim sound.
 pub fn damage_claim(rng: &mut Rng, claim: &mut Claim) {
     for _ in 0..rng.range(1, 3) {
-        match rng.below(9) {
+        match rng.below(10) {
             0 => claim.disability = wild_date(rng),
             1 => claim.bcd = wild_date(rng),
             2 => claim.termination = wild_date(rng),
@@ -124,6 +136,7 @@ pub fn damage_claim(rng: &mut Rng, claim: &mut Claim) {
                 let bcd = claim.bcd.day_number().unwrap_or(Day(20_000)).0;
                 claim.termination = day_between(rng, bcd - 2, bcd + 1).date();
             }
+            8 => claim.benefit = rng.pick(&[0, 1, 199, 200, 201, 201, 255]),
             _ => claim.cell = if rng.one_in(2) { rng.below(256) as u16 } else { rng.bits() as u16 },
         }
     }
@@ -234,7 +247,7 @@ pub fn damage_file(rng: &mut Rng, file: &mut Vec<u8>) {
         5 => {
             // A byte that should be zero, at the end of the heading, of a claim or of the claims.
             let block = block_of(file, number);
-            let at = rng.pick(&[3, 15, 24, 40, 47, 16 + 32 * 14 + 24, 495, 496, 509]);
+            let at = rng.pick(&[3, 15, 24, 41, 47, 16 + 32 * 14 + 25, 495, 496, 509]);
             block[at] = rng.range(1, 255) as u8;
             seal(block);
         }

@@ -1,7 +1,7 @@
 //! A load: sound claims as a carrier might have them, and the rates of their cells.
 
 use crate::calendar::{Date, Day};
-use crate::claim::{Claim, CLOSED, DEATH, LIMIT, MAX_OUT, OPEN, RECOVERY, SETTLEMENT};
+use crate::claim::{Claim, CLOSED, DEATH, LIMIT, MAX_OUT, MOST_BENEFIT, OPEN, RECOVERY, SETTLEMENT};
 use crate::generate::any_cell;
 use crate::rates::DURATIONS;
 use crate::rng::Rng;
@@ -13,10 +13,13 @@ fn day(year: u16, month: u8, day: u8) -> Day {
     Date::new(year, month, day).day_number().unwrap()
 }
 
-/// Claims of `cells` cells; fewer of them with one seed are the first of more.
+/// Claims of `cells` cells with all benefits; fewer of them with one seed are the first of more.
 pub fn claims(seed: u64, count: usize, cells: usize) -> Vec<Claim> {
-    let mut rng = Rng::new(seed);
-    (1..=count as u32).map(|number| claim(&mut rng, number, cells)).collect()
+    // Benefits have a generator of their own, so that the claims are otherwise what they were without.
+    let (mut rng, mut benefits) = (Rng::new(seed), Rng::new(!seed));
+    (1..=count as u32)
+        .map(|number| Claim { benefit: benefits.range(0, MOST_BENEFIT as i64) as u8, ..claim(&mut rng, number, cells) })
+        .collect()
 }
 
 fn claim(rng: &mut Rng, number: u32, cells: usize) -> Claim {

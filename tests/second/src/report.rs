@@ -1,6 +1,8 @@
 //! The program: its rates file and what it prints.
 
 use crate::rates::CELL_LENGTH;
+use crate::run::RUN_LENGTH;
+use crate::study::{GROUP_LENGTH, SUMS_AT};
 use crate::valuation::Factor;
 use std::fmt::Write;
 
@@ -22,14 +24,14 @@ pub fn encode_rates(rates: &[u32]) -> Vec<u8> {
     rates.iter().flat_map(|rate| rate.to_le_bytes()).collect()
 }
 
-/// What the program prints of a run's 46 numbers; `factor` gives z, m and T of a group, C and E.
-pub fn report(numbers: &[i64; 46], factor: impl Fn(u8, u32, i64) -> Factor) -> String {
+/// What the program prints of a run's numbers, by count alone; `factor` gives z, m and T of a group, C and E.
+pub fn report(numbers: &[i64; RUN_LENGTH], factor: impl Fn(u8, u32, i64) -> Factor) -> String {
     let [refused, block, place] = [numbers[0], numbers[1], numbers[2]];
     if refused != 0 {
         return format!("refused {refused} block {block} claim {place}\n");
     }
     let mut text = String::from("group exposure rec dea set max lim exprec expdea T\n");
-    for (group, row) in (1u8..).zip(numbers[6..].chunks_exact(8)) {
+    for (group, row) in (1u8..=5).zip(numbers[3 + SUMS_AT..].chunks_exact(GROUP_LENGTH)) {
         let c = (row[1] + row[2]) as u32;
         let e = row[6] + row[7];
         write!(text, "{group}").unwrap();

@@ -2,8 +2,11 @@
 
 use crate::block::{read_block, Block, BLOCK_LENGTH};
 use crate::rates::{PreparedTable, RateTable, Rates};
-use crate::study::Study;
+use crate::study::{Study, STUDY_LENGTH};
 use crate::Refusal;
+
+/// The numbers of a file run as a list.
+pub const RUN_LENGTH: usize = 3 + STUDY_LENGTH;
 
 /// What a file run gives: 0 for number, block and place if not refused, and the study (so far).
 #[derive(Clone, Copy, Debug, PartialEq, Eq)]
@@ -58,8 +61,8 @@ fn take_blocks<B: AsRef<[u8]>>(blocks: impl Iterator<Item = B>, rates: &impl Rat
 
 impl FileRun {
     /// Number, block, place, then the study's numbers.
-    pub fn numbers(&self) -> [i64; 46] {
-        let mut numbers = [0; 46];
+    pub fn numbers(&self) -> [i64; RUN_LENGTH] {
+        let mut numbers = [0; RUN_LENGTH];
         numbers[..3].copy_from_slice(&[self.refused as i64, self.block as i64, self.place as i64]);
         numbers[3..].copy_from_slice(&self.study.numbers());
         numbers

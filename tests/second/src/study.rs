@@ -1,7 +1,7 @@
-//! Study: its sums by duration group, opening, and the adding of claims.
+//! Study: its sums by duration group, by count and weighted by benefit, opening, and the adding of claims.
 
 use crate::calendar::{Date, Day};
-use crate::claim::{Claim, Duration};
+use crate::claim::{Claim, Duration, MOST_BENEFIT};
 use crate::months::{month_records, Window};
 use crate::rates::{Rates, RatesByDuration};
 use crate::Refusal;
@@ -10,8 +10,16 @@ pub const MOST_CLAIMS: u32 = 500_000;
 pub const MOST_THIRTIETHS: i64 = 27_000_000_000;
 pub const MOST_EXPECTED: i64 = 27_000_000_000_000_000;
 
-/// The numbers of a study as a list.
-pub const STUDY_LENGTH: usize = 43;
+/// How much more the weighted set may hold.
+const WEIGHTED_BOUNDS: i64 = MOST_BENEFIT as i64;
+
+/// The numbers of a group's sums as a list.
+pub const GROUP_LENGTH: usize = 8;
+/// The numbers of a study as a list: first and last day, claims taken, and two sets of five groups.
+pub const STUDY_LENGTH: usize = WEIGHTED_AT + 5 * GROUP_LENGTH;
+/// Where the sums by count and the weighted ones start.
+pub const SUMS_AT: usize = 3;
+pub const WEIGHTED_AT: usize = SUMS_AT + 5 * GROUP_LENGTH;
 
 /// The duration group, 1 to 5.
 pub fn duration_group(duration: Duration) -> usize {
@@ -24,7 +32,7 @@ pub fn duration_group(duration: Duration) -> usize {
     }
 }
 
-/// The sums of one duration group.
+/// The sums of one duration group, by count or weighted.
 #[derive(Clone, Copy, Debug, Default, PartialEq, Eq)]
 pub struct GroupSums {
     pub thirtieths: i64,
@@ -44,6 +52,24 @@ impl GroupSums {
         self.expected_recoveries += other.expected_recoveries;
         self.expected_deaths += other.expected_deaths;
     }
+
+    fn times(&self, weight: u8) -> GroupSums {
+        GroupSums {
+            thirtieths: self.thirtieths * weight as i64,
+            closings: self.closings.map(|count| count * weight as u32),
+            expected_recoveries: self.expected_recoveries * weight as i64,
+            expected_deaths: self.expected_deaths * weight as i64,
+        }
+    }
+
+    /// Within check 9's bounds, `times` times.
+    fn is_within(&self, times: i64) -> bool {
+        let within = |sum: i64, most: i64| -times * most <= sum && sum <= times * most;
+        within(self.thirtieths, MOST_THIRTIETHS)
+            && within(self.expected_recoveries, MOST_EXPECTED)
+            && within(self.expected_deaths, MOST_EXPECTED)
+            && self.closings.iter().all(|&count| count as i64 <= times * MOST_CLAIMS as i64)
+    }
 }
 
 #[derive(Clone, Copy, Debug, PartialEq, Eq)]
@@ -51,6 +77,8 @@ pub struct Study {
     pub window: Window,
     pub claims_taken: u32,
     pub groups: [GroupSums; 5],
+    /// The second set: each claim's share times its benefit.
+    pub weighted: [GroupSums; 5],
 }
 
 impl Study {
@@ -60,14 +88,14 @@ impl Study {
     }
 
     fn over(window: Window) -> Study {
-        Study { window, claims_taken: 0, groups: [GroupSums::default(); 5] }
+        Study { window, claims_taken: 0, groups: [GroupSums::default(); 5], weighted: [GroupSums::default(); 5] }
     }
 
-    /// First and last day of the window, claims taken, then eight sums for each group.
+    /// First and last day of the window, claims taken, then eight sums for each group, and as many for each group of the weighted set.
     pub fn numbers(&self) -> [i64; STUDY_LENGTH] {
         let mut numbers = [0; STUDY_LENGTH];
         numbers[..3].copy_from_slice(&[self.window.first.0 as i64, self.window.last.0 as i64, self.claims_taken as i64]);
-        for (row, group) in numbers[3..].chunks_exact_mut(8).zip(&self.groups) {
+        for (row, group) in numbers[SUMS_AT..].chunks_exact_mut(GROUP_LENGTH).zip(self.groups.iter().chain(&self.weighted)) {
             row[0] = group.thirtieths;
             for (number, &count) in row[1..6].iter_mut().zip(&group.closings) {
                 *number = count as i64;
@@ -78,14 +106,14 @@ impl Study {
         numbers
     }
 
-    /// The study of any numbers; none if a day, the claims taken or a closing count is not 0 to 2^32 − 1.
+    /// The study of any numbers; none if a day, the claims taken, a closing count or a weighted closing sum is not 0 to 2^32 − 1.
     pub fn of_numbers(numbers: &[i64; STUDY_LENGTH]) -> Option<Study> {
         let unsigned = |number: i64| u32::try_from(number).ok();
         // A day number that `Day` cannot hold is as little a date as the highest one it can.
         let day = |number: i64| unsigned(number).map(|number| Day(number.min(i32::MAX as u32) as i32));
         let window = Window { first: day(numbers[0])?, last: day(numbers[1])? };
         let mut study = Study { claims_taken: unsigned(numbers[2])?, ..Study::over(window) };
-        for (group, row) in study.groups.iter_mut().zip(numbers[3..].chunks_exact(8)) {
+        for (group, row) in study.groups.iter_mut().chain(&mut study.weighted).zip(numbers[SUMS_AT..].chunks_exact(GROUP_LENGTH)) {
             group.thirtieths = row[0];
             for (count, &number) in group.closings.iter_mut().zip(&row[1..6]) {
                 *count = unsigned(number)?;
@@ -101,7 +129,7 @@ impl Study {
         Window::of_dates(first, last).map(Study::over)
     }
 
-    /// Checks 1 to 9; a refused claim leaves the study as it was.
+    /// Checks 1 to 9 and 16; a refused claim leaves the study as it was.
     pub fn add<R: Rates>(&mut self, claim: &Claim, rates: &R) -> Result<(), Refusal> {
         self.window.check()?;
         let claim = claim.check()?;
@@ -114,7 +142,7 @@ impl Study {
         for record in month_records(&claim, self.window) {
             let record_group = duration_group(record.duration);
             if record_group != group {
-                self.groups[group - 1].add(&sums);
+                self.take(group, &sums, claim.weight);
                 (group, sums) = (record_group, GroupSums::default());
             }
             let (recovery, death) = cell.at(record.duration);
@@ -126,22 +154,22 @@ impl Study {
                 sums.closings[record.category as usize - 1] += 1;
             }
         }
-        self.groups[group - 1].add(&sums);
+        self.take(group, &sums, claim.weight);
         self.claims_taken += 1;
         Ok(())
     }
 
+    /// Adds a claim's share of a group to both sets.
+    fn take(&mut self, group: usize, share: &GroupSums, weight: u8) {
+        self.groups[group - 1].add(share);
+        self.weighted[group - 1].add(&share.times(weight));
+    }
+
     /// Check 9.
     fn check_room(&self) -> Result<(), Refusal> {
-        let within = |sum: i64, most: i64| -most <= sum && sum <= most;
-        let room = self.claims_taken < MOST_CLAIMS
-            && self.groups.iter().all(|group| {
-                within(group.thirtieths, MOST_THIRTIETHS)
-                    && within(group.expected_recoveries, MOST_EXPECTED)
-                    && within(group.expected_deaths, MOST_EXPECTED)
-                    && group.closings.iter().all(|&count| count <= MOST_CLAIMS)
-            });
-        if room {
+        let within =
+            self.groups.iter().all(|group| group.is_within(1)) && self.weighted.iter().all(|group| group.is_within(WEIGHTED_BOUNDS));
+        if self.claims_taken < MOST_CLAIMS && within {
             Ok(())
         } else {
             Err(Refusal::Full)

@@ -629,7 +629,7 @@ fn every_byte_of_a_block_is_checked() {
             // With the check set right only claim fields may differ, and the count within the claims there are.
             seal(&mut damaged);
             let place = (at + 16) % 32;
-            let field = (16..80).contains(&at) && place < 24;
+            let field = (16..80).contains(&at) && place < 25;
             let more_claims = at == 2 && (2 ^ (1 << bit)) > 2 && (2 ^ (1 << bit)) <= 15;
             assert_eq!(read_block(&damaged, 258).is_ok(), field || more_claims || at >= 510, "{at} {bit}");
         }
@@ -687,7 +687,7 @@ fn blocks_of_records() {
     for length in (1..64).filter(|length| length % 32 != 0) {
         assert_eq!(write_records(1, &records[..length], &mut block), Err(Refusal::Block));
     }
-    for at in (24..32).chain(56..64) {
+    for at in (25..32).chain(57..64) {
         let mut wrong = records.clone();
         wrong[at] = 1;
         assert_eq!(write_records(1, &wrong, &mut block), Err(Refusal::Block));

@@ -1,12 +1,15 @@
 //! The second implementation against the change requests of document 02, each with its own examples.
 
 use second::block::{claim_record, read_claim};
-use second::claim::{Claim, CHANGE_OF_DEFINITION, MAX_OUT, RECOVERY, SETTLEMENT};
+use second::calendar::{Date, Day};
+use second::claim::{Claim, Duration, CHANGE_OF_DEFINITION, MAX_OUT, RECOVERY, SETTLEMENT};
 use second::examples::{closed_claim, date, day, flat_rates, open_claim, rows_in, STUDY_WINDOW};
-use second::generate::claim_file;
-use second::rates::{RateTable, CELL_LENGTH};
+use second::generate::{claim_file, sound_claim, sound_rates, sound_window};
+use second::rates::{RateTable, Rates, RatesByDuration, CELL_LENGTH};
 use second::report::{decode_rates, report};
+use second::rng::Rng;
 use second::run::run_file;
+use second::study::{duration_group, GroupSums, Study};
 use second::valuation::{factor, reserve_limit, wanted_count, Factor, Limited};
 use second::Refusal;
 
@@ -56,7 +59,7 @@ fn the_cell_has_two_bytes_and_old_files_read_as_they_did() {
         record[22..24].copy_from_slice(&bytes);
         assert_eq!(read_claim(&record).unwrap().cell, cell);
     }
-    for at in 24..32 {
+    for at in 25..32 {
         let mut wrong = record;
         wrong[at] = 1;
         assert_eq!(read_claim(&wrong), None);
@@ -76,6 +79,164 @@ fn a_table_has_up_to_1024_cells() {
     assert_eq!(groups[1].expected_recoveries, 7 * groups[1].thirtieths);
     // The program still takes 16.
     assert!(decode_rates(&vec![0; 17 * CELL_LENGTH * 4]).is_empty());
+}
+
+// No. 7: weighting by benefit.
+
+#[test]
+fn the_benefit_has_byte_24_and_0_is_kept() {
+    let claim = closed_claim("2011-02-10", "2012-05-20", RECOVERY);
+    for benefit in 0..=255 {
+        let record = claim_record(&Claim { benefit, ..claim });
+        assert_eq!((record[24], &record[25..]), (benefit, &[0; 7][..]));
+        assert_eq!(read_claim(&record), Some(Claim { benefit, ..claim }));
+    }
+}
+
+#[test]
+fn a_benefit_over_200_is_refused_between_sequence_and_short_elimination() {
+    let sound = closed_claim("2011-02-10", "2012-05-20", RECOVERY);
+    let (bad, rates) = (Date::new(2011, 2, 29), flat_rates(1, 1));
+    for (benefit, number) in [(0, None), (1, None), (200, None), (201, Some(16)), (255, Some(16))] {
+        let high = number.is_some();
+        let cases = [
+            (sound, number),
+            (Claim { maximum: bad, ..sound }, Some(2)),
+            (Claim { code: 7, ..sound }, Some(3)),
+            (Claim { disability: date("2011-02-11"), ..sound }, Some(4)),
+            (Claim { disability: date("2011-02-10"), ..sound }, if high { Some(16) } else { Some(5) }),
+        ];
+        for (claim, number) in cases {
+            let claim = Claim { benefit, ..claim };
+            assert_eq!(rows_in("2009-01-01", "2017-12-31", &claim).err().map(Refusal::number), number, "{claim}");
+            let run = run_file(&claim_file(STUDY_WINDOW, &[sound, claim], None), &rates);
+            assert_eq!((run.refused, run.study.claims_taken), (number.unwrap_or(0), 1 + u32::from(number.is_none())), "{claim}");
+        }
+        // Before the table, the cell and room are looked at.
+        let refused = |study: Study, claim: Claim, rates: &[u32]| {
+            let mut after = study;
+            after.add(&claim, &RateTable::new(rates)).err().map(Refusal::number)
+        };
+        let study = Study { claims_taken: 500_000, ..Study::open(STUDY_WINDOW.0, STUDY_WINDOW.1).unwrap() };
+        let claim = Claim { benefit, cell: 9, ..sound };
+        let later = |later: u8| if high { Some(16) } else { Some(later) };
+        assert_eq!([refused(study, claim, &[]), refused(study, claim, &rates)], [later(6), later(7)]);
+        assert_eq!(refused(study, Claim { cell: 0, ..claim }, &rates), later(9));
+    }
+}
+
+/// The weighted set by the letter: each month record's thirtieths, closing and expected sums times the benefit.
+#[test]
+fn each_share_is_multiplied_by_its_benefit() {
+    let mut rng = Rng::new(104);
+    for _ in 0..300 {
+        let rates = sound_rates(&mut rng, 4);
+        let table = RateTable::new(&rates);
+        let claims: Vec<Claim> = (0..10).map(|_| sound_claim(&mut rng)).collect();
+        let (first, last) = sound_window(&mut rng, &claims[0]);
+        let mut study = Study::open(first, last).unwrap();
+        let (mut counted, mut weighted) = ([GroupSums::default(); 5], [GroupSums::default(); 5]);
+        for claim in &claims {
+            study.add(claim, &table).unwrap();
+            let weight = if claim.benefit == 0 { 1 } else { claim.benefit };
+            for row in rows_in(&first.to_string(), &last.to_string(), claim).unwrap() {
+                let duration = Duration(row[0] as u32);
+                let (recovery, death) = table.cell(claim.cell.into()).ok().unwrap().at(duration);
+                for (groups, weight) in [(&mut counted, 1), (&mut weighted, weight)] {
+                    let (group, thirtieths) = (&mut groups[duration_group(duration) - 1], row[3] as i64 * weight as i64);
+                    group.thirtieths += thirtieths;
+                    group.expected_recoveries += thirtieths * recovery;
+                    group.expected_deaths += thirtieths * death;
+                    if row[5] != 0 {
+                        group.closings[row[5] as usize - 1] += weight as u32;
+                    }
+                }
+            }
+        }
+        assert_eq!((study.groups, study.weighted, study.claims_taken), (counted, weighted, 10));
+    }
+}
+
+#[test]
+fn a_benefit_of_0_weighs_as_1() {
+    let rates = flat_rates(10_000, 5_000);
+    let sums = |benefit: u8| {
+        let claim = Claim { benefit, ..closed_claim("2009-06-11", "2012-04-29", RECOVERY) };
+        run_file(&claim_file(STUDY_WINDOW, &[claim; 3], None), &rates).study
+    };
+    let old = sums(0);
+    assert_eq!((old.weighted, old), (old.groups, sums(1)));
+    assert_eq!((old.weighted[1].thirtieths, old.weighted[2].thirtieths, old.weighted[2].closings), (3 * 630, 3 * 420, [3, 0, 0, 0, 0]));
+    let high = sums(200);
+    assert_eq!((high.groups, high.weighted[2].closings), (old.groups, [600, 0, 0, 0, 0]));
+    assert_eq!((high.weighted[2].expected_recoveries, high.weighted[2].expected_deaths), (600 * 4_200_000, 600 * 2_100_000));
+}
+
+#[test]
+fn the_weighted_set_has_room_for_200_times_as_much() {
+    let rates = flat_rates(400_000, 600_000);
+    let table = RateTable::new(&rates);
+    let claim = closed_claim("2011-02-10", "2012-05-20", RECOVERY);
+    let opened = Study::open(STUDY_WINDOW.0, STUDY_WINDOW.1).unwrap();
+    let refused = |set: &dyn Fn(&mut GroupSums), group: usize| {
+        let mut study = opened;
+        set(&mut study.weighted[group]);
+        let before = study;
+        let refusal = study.add(&claim, &table).err().map(Refusal::number);
+        assert_eq!(study == before, refusal.is_some());
+        refusal
+    };
+    for group in 0..5 {
+        for side in [1, -1] {
+            for (beyond, number) in [(0, None), (1, Some(9))] {
+                let thirtieths = side * (5_400_000_000_000 + beyond);
+                let expected = side * (5_400_000_000_000_000_000 + beyond);
+                assert_eq!(refused(&|sums| sums.thirtieths = thirtieths, group), number);
+                assert_eq!(refused(&|sums| sums.expected_recoveries = expected, group), number);
+                assert_eq!(refused(&|sums| sums.expected_deaths = expected, group), number);
+            }
+        }
+        for category in 0..5 {
+            for (sum, number) in [(100_000_000, None), (100_000_001, Some(9)), (u32::MAX, Some(9))] {
+                assert_eq!(refused(&|sums| sums.closings[category] = sum, group), number);
+            }
+        }
+    }
+}
+
+#[test]
+fn z_m_and_t_remain_by_count() {
+    let rates = flat_rates(10_000, 5_000);
+    let claim = closed_claim("2009-06-11", "2012-04-29", RECOVERY);
+    let printed = |benefits: &[u8]| {
+        let claims: Vec<Claim> = benefits.iter().map(|&benefit| Claim { benefit, ..claim }).collect();
+        report(&run_file(&claim_file(STUDY_WINDOW, &claims, None), &rates).numbers(), |group, c, e| factor(group, c, e).unwrap())
+    };
+    assert_eq!(printed(&[0, 7, 200]), printed(&[0; 3]));
+}
+
+/// Demand 3 for the weighted sums too.
+#[test]
+fn the_weighted_sums_of_the_parts_total_those_of_the_whole() {
+    let mut rng = Rng::new(105);
+    for _ in 0..200 {
+        let rates = sound_rates(&mut rng, 4);
+        let table = RateTable::new(&rates);
+        let claims: Vec<Claim> = (0..20).map(|_| sound_claim(&mut rng)).collect();
+        let (first, last) = sound_window(&mut rng, &claims[0]);
+        let run = |first: Day, last: Day| {
+            let mut study = Study::open(first.date(), last.date()).unwrap();
+            claims.iter().for_each(|claim| study.add(claim, &table).unwrap());
+            study.numbers()
+        };
+        let (first, last) = (first.day_number().unwrap(), last.day_number().unwrap());
+        let cut = Day(rng.range(first.0 as i64, last.0 as i64) as i32);
+        let whole = run(first, last);
+        let parts = if cut == last { vec![whole] } else { vec![run(first, cut), run(cut + 1, last)] };
+        for place in 3..whole.len() {
+            assert_eq!(whole[place], parts.iter().map(|part| part[place]).sum::<i64>(), "place {place}");
+        }
+    }
 }
 
 // No. 9: the 1.30 limit judged on reserves.

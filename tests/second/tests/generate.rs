@@ -22,7 +22,7 @@ fn sound_inputs_are_accepted() {
 #[test]
 fn damaged_inputs_meet_every_refusal() {
     let mut rng = Rng::new(202);
-    let mut met = [0; 12];
+    let mut met = [0; 17];
     for i in 0..4_000 {
         let mut rates = sound_rates(&mut rng, 2);
         let mut claims: Vec<Claim> = (0..20).map(|_| Claim { cell: any_cell(&mut rng, 2), ..sound_claim(&mut rng) }).collect();
@@ -40,7 +40,7 @@ fn damaged_inputs_meet_every_refusal() {
         met[run_file(&file, &rates).refused as usize] += 1;
     }
     // 9 needs 500,000 claims, 10 a list.
-    for number in [0, 1, 2, 3, 4, 5, 6, 7, 8, 11] {
+    for number in [0, 1, 2, 3, 4, 5, 6, 7, 8, 11, 16] {
         assert!(met[number] >= 20, "refusal {number}: {met:?}");
     }
 }

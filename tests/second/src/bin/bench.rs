@@ -13,7 +13,7 @@ use second::load::{claims, rates, NINE_YEARS};
 use second::months::listing;
 use second::rates::{RateTable, MOST_CELLS};
 use second::report::{encode_rates, report};
-use second::run::run_file;
+use second::run::{run_file, RUN_LENGTH};
 use second::study::{Study, STUDY_LENGTH};
 use second::valuation::{factor, reserve_limit, Limited, MOST_OPEN_CLAIMS};
 use std::env;
@@ -58,7 +58,7 @@ fn main() {
 struct Load {
     file: Vec<u8>,
     rates: Vec<u32>,
-    numbers: [i64; 46],
+    numbers: [i64; RUN_LENGTH],
 }
 
 impl Load {
@@ -69,13 +69,13 @@ impl Load {
     }
 
     fn months(&self) -> f64 {
-        self.numbers[6..].chunks(8).map(|group| group[0]).sum::<i64>() as f64 / 30.0
+        self.numbers[6..].chunks(8).take(5).map(|group| group[0]).sum::<i64>() as f64 / 30.0
     }
 
     /// The engine's run, preparing included.
     fn engine(&self) -> Timed {
         let mut table = [&self.rates[..], &[0]].concat();
-        let mut out = [0; 46];
+        let mut out = [0; RUN_LENGTH];
         let begin = Instant::now();
         ffi::prepare(black_box(&mut table));
         ffi::prepared_file_study(black_box(&self.file), &table, &mut out);
@@ -90,7 +90,7 @@ impl Load {
         self.checked("the second implementation", run.numbers(), seconds)
     }
 
-    fn checked(&self, what: &str, numbers: [i64; 46], seconds: f64) -> Timed {
+    fn checked(&self, what: &str, numbers: [i64; RUN_LENGTH], seconds: f64) -> Timed {
         if numbers == self.numbers && numbers[0] == 0 {
             Ok(seconds)
         } else {

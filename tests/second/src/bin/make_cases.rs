@@ -25,6 +25,7 @@ const EXAMPLE: Claim = Claim {
     status: CLOSED,
     code: RECOVERY,
     cell: 0,
+    benefit: 0,
 };
 
 /// Settled on the day that its window begins: −1 thirtieths.
@@ -92,6 +93,8 @@ fn claim_files() -> Vec<(&'static str, Vec<u8>)> {
     vec![
         ("example", of(&[EXAMPLE])),
         ("change_of_definition", of(&[Claim { code: CHANGE_OF_DEFINITION, ..EXAMPLE }])),
+        ("benefit_200", of(&[Claim { benefit: 200, ..EXAMPLE }])),
+        ("benefit_201", of(&[Claim { benefit: 201, ..EXAMPLE }])),
         ("cell_256", of(&[Claim { cell: 256, ..EXAMPLE }])),
         ("twenty", twenty.clone()),
         ("recovered", of(&[EXAMPLE; 2_000])),

@@ -9,6 +9,7 @@ use second::calendar::Day;
 use second::claim::{Claim, CHANGE_OF_DEFINITION, CLOSED, MAX_OUT, OPEN, RECOVERY};
 use second::generate::{sound_claim, sound_rates, sound_window};
 use second::rng::Rng;
+use second::run::RUN_LENGTH;
 use second::study::STUDY_LENGTH;
 
 pub const TESTS: &[Test] = &[
@@ -94,7 +95,7 @@ fn in_files(rng: &mut Rng) -> Outcome {
         let count = rng.range(1, 40) as usize;
         let claims: Vec<[Claim; 2]> = (0..count).map(|_| two_claims(rng)).collect();
         let window = sound_window(rng, &claims[0][0]);
-        let mut runs = [[0; 46]; 2];
+        let mut runs = [[0; RUN_LENGTH]; 2];
         for (i, run) in runs.iter_mut().enumerate() {
             let claims: Vec<Claim> = claims.iter().map(|claims| claims[i]).collect();
             *run = compare_file_study(&file_of(rng, window, &claims), &rates)?;

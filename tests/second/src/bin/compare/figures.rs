@@ -159,7 +159,7 @@ fn refusal_lines(_: &mut Rng) -> Outcome {
     let mut part = claim_file(STUDY_WINDOW, &[sound; 20], None);
     part.push(0);
     let too_high = flat_rates(600_000, 400_001);
-    let cases: [(Vec<u8>, &[u32], &str); 14] = [
+    let cases: [(Vec<u8>, &[u32], &str); 15] = [
         (vec![], &rates, "refused 11 block 0 claim 0\n"),
         (vec![0; 511], &rates, "refused 11 block 0 claim 0\n"),
         (vec![0; 512], &rates, "refused 1 block 0 claim 0\n"),
@@ -168,6 +168,7 @@ fn refusal_lines(_: &mut Rng) -> Outcome {
         (eighteenth(Claim { code: 7, ..sound }), &rates, "refused 3 block 2 claim 3\n"),
         (eighteenth(Claim { disability: date("2009-06-12"), ..sound }), &rates, "refused 4 block 2 claim 3\n"),
         (eighteenth(Claim { disability: date("2009-05-28"), ..sound }), &rates, "refused 5 block 2 claim 3\n"),
+        (eighteenth(Claim { benefit: 201, ..sound }), &rates, "refused 16 block 2 claim 3\n"),
         (claim_file(STUDY_WINDOW, &[sound], None), &[], "refused 6 block 1 claim 1\n"),
         (claim_file(STUDY_WINDOW, &[sound], None), &rates[1..], "refused 6 block 1 claim 1\n"),
         (eighteenth(Claim { cell: 1, ..sound }), &rates, "refused 7 block 2 claim 3\n"),

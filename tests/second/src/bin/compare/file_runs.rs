@@ -4,11 +4,11 @@ use crate::inputs::{closed_claim, date, file_of, flat_rates, sound_claims, sound
 use crate::one_input::{compare_file_study, compare_prepare, hex, same, FirstRun};
 use crate::{test, Outcome, Test};
 use second::block::{write_block, BLOCK_LENGTH};
-use second::claim::LIMIT;
+use second::claim::{Claim, LIMIT, MOST_BENEFIT};
 use second::ffi;
 use second::generate::{any_cell, claim_file, damage_claim, damage_file, damage_rates, sound_claim, sound_rates, sound_window, wild_date};
 use second::rng::Rng;
-use second::run::run_file;
+use second::run::{run_file, RUN_LENGTH};
 
 pub const TESTS: &[Test] = &[
     test("study: one claim", 6, one_claim),
@@ -144,8 +144,8 @@ fn check_order(rng: &mut Rng) -> Outcome {
 }
 
 /// The first implementation's numbers alone, of a file too long to show.
-fn first_run(run: FirstRun, file: &[u8], table: &[u32]) -> [i64; 46] {
-    let mut out = [0; 46];
+fn first_run(run: FirstRun, file: &[u8], table: &[u32]) -> [i64; RUN_LENGTH] {
+    let mut out = [0; RUN_LENGTH];
     run(file, table, &mut out);
     out
 }
@@ -153,7 +153,8 @@ fn first_run(run: FirstRun, file: &[u8], table: &[u32]) -> [i64; 46] {
 fn full(_: &mut Rng) -> Outcome {
     let window = (date("2011-01-01"), date("2011-03-31"));
     let rates = flat_rates(1_000_000, 0);
-    let claims = vec![closed_claim("2011-02-10", "2011-03-10", LIMIT); 500_000];
+    // The weighted closing sum of their group reaches its bound as well.
+    let claims = vec![Claim { benefit: MOST_BENEFIT, ..closed_claim("2011-02-10", "2011-03-10", LIMIT) }; 500_000];
     let mut file = claim_file(window, &claims, None);
     let table = compare_prepare(&[&rates[..], &[0]].concat())?.1;
     let check = |file: &[u8], paper: [i64; 4]| {

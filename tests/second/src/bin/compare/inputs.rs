@@ -40,6 +40,7 @@ pub fn any_claims(rng: &mut Rng, count: usize) -> Vec<Claim> {
             claim.disability = Date::from_number(rng.bits() as u32);
             claim.code = rng.bits() as u8;
             claim.cell = rng.bits() as u16;
+            claim.benefit = rng.bits() as u8;
         }
         claims.push(claim);
     }

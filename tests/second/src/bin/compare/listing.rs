@@ -6,7 +6,7 @@ use crate::{test, Outcome, Test};
 use second::block::{claim_record, CLAIM_LENGTH, ZEROS_AT};
 use second::calendar::{Date, Day};
 use second::claim::{Claim, CLOSED};
-use second::generate::{any_code, damage_claim, sound_claim, sound_window, wild_date};
+use second::generate::{any_benefit, any_code, damage_claim, sound_claim, sound_window, wild_date};
 use second::months::listing;
 use second::rng::Rng;
 
@@ -115,6 +115,7 @@ fn wild(rng: &mut Rng) -> Outcome {
             status: if rng.one_in(4) { rng.bits() as u8 } else { rng.below(2) as u8 },
             code: if rng.one_in(4) { rng.bits() as u8 } else { rng.below(8) as u8 },
             cell: rng.bits() as u16,
+            benefit: if rng.one_in(4) { rng.bits() as u8 } else { any_benefit(rng) },
         };
         let (first, last) = if rng.one_in(4) { (wild_date(rng), wild_date(rng)) } else { sound_window(rng, &claim) };
         compare_listing(first, last, &claim, LONG_LIST)?;
@@ -164,7 +165,7 @@ fn record_forms(rng: &mut Rng) -> Outcome {
         };
         let record = claim_record(&claim);
         let (answer, _) = compare_listing(first, last, &claim, length)?;
-        for short in [0, 1, 22, 23, 30, 31, rng.below(CLAIM_LENGTH as u64) as usize] {
+        for short in [0, 1, 23, 24, 25, 30, 31, rng.below(CLAIM_LENGTH as u64) as usize] {
             must(&record[..short], u64::refused(WRONG_FORM))?;
         }
         // A longer record is taken, whatever follows it.

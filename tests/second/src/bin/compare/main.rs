@@ -4,6 +4,7 @@
 //! Run: LTD_LIB_DIR=(the directory of libc_file.a and libc_abi.a) cargo run --release --features first --bin compare [-- TEXT]
 //! With TEXT only the tests run whose name has it.
 
+mod benefits;
 mod blocks;
 mod cells;
 mod codes;
@@ -48,6 +49,7 @@ const SUBJECTS: &[&[Test]] = &[
     month_walk::TESTS,
     codes::TESTS,
     cells::TESTS,
+    benefits::TESTS,
     file_runs::TESTS,
     prepared::TESTS,
     windows::TESTS,

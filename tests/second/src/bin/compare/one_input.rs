@@ -7,7 +7,7 @@ use second::claim::Claim;
 use second::ffi;
 use second::months::listing;
 use second::rates::{prepare, RateTable};
-use second::run::{run_file, run_prepared_file, FileRun};
+use second::run::{run_file, run_prepared_file, FileRun, RUN_LENGTH};
 use second::study::{Study, STUDY_LENGTH};
 use second::valuation::{factor, reserve_factor, reserve_limit, valuation_rate, wanted_count, Factor, Limited};
 use second::Refusal;
@@ -16,7 +16,11 @@ use std::fmt::{Debug, Write as _};
 /// What an answer of 64 bits has more than the number refused.
 pub const REFUSED: u64 = 1 << 32;
 /// Numbers of document 01's table and of document 02's requests.
+pub const WINDOW: u8 = 1;
+pub const DATE: u8 = 2;
 pub const STATUS: u8 = 3;
+pub const SEQUENCE: u8 = 4;
+pub const SHORT_ELIMINATION: u8 = 5;
 pub const RATE_TABLE: u8 = 6;
 pub const CELL: u8 = 7;
 pub const RATE: u8 = 8;
@@ -25,6 +29,7 @@ pub const SHORT_LIST: u8 = 10;
 pub const BLOCK: u8 = 11;
 pub const VALUATION: u8 = 12;
 pub const DISCOUNT: u8 = 13;
+pub const BENEFIT: u8 = 16;
 pub const OPEN_CLAIMS: u8 = 17;
 pub const NO_SUCH_COUNT: u8 = 19;
 /// A lent list has not the length or form asked for.
@@ -201,7 +206,7 @@ fn described(record: &[u8]) -> String {
 pub const LONG_LIST: usize = 6 * 1_801;
 
 /// Compares the runs over a file, with the rates and with their prepared table, and hands back the first one's numbers.
-pub fn compare_file_study(file: &[u8], rates: &[u32]) -> Result<[i64; 46], String> {
+pub fn compare_file_study(file: &[u8], rates: &[u32]) -> Result<[i64; RUN_LENGTH], String> {
     let numbers = compare_plain_run(file, rates)?;
     let (_, table) = compare_prepare(&[rates, &[0]].concat())?;
     let prepared = compare_prepared_run(file, &table)?;
@@ -209,31 +214,31 @@ pub fn compare_file_study(file: &[u8], rates: &[u32]) -> Result<[i64; 46], Strin
     Ok(numbers)
 }
 
-pub fn compare_plain_run(file: &[u8], rates: &[u32]) -> Result<[i64; 46], String> {
+pub fn compare_plain_run(file: &[u8], rates: &[u32]) -> Result<[i64; RUN_LENGTH], String> {
     compare_runs(file, rates, ffi::file_study, run_file)
 }
 
 /// With a prepared table, or any other list.
-pub fn compare_prepared_run(file: &[u8], table: &[u32]) -> Result<[i64; 46], String> {
+pub fn compare_prepared_run(file: &[u8], table: &[u32]) -> Result<[i64; RUN_LENGTH], String> {
     compare_runs(file, table, ffi::prepared_file_study, run_prepared_file)
 }
 
 /// The study of a file with rates or a prepared table.
 pub type FirstRun = fn(&[u8], &[u32], &mut [i64]) -> u8;
 
-fn compare_runs(file: &[u8], table: &[u32], first: FirstRun, second: fn(&[u8], &[u32]) -> FileRun) -> Result<[i64; 46], String> {
+fn compare_runs(file: &[u8], table: &[u32], first: FirstRun, second: fn(&[u8], &[u32]) -> FileRun) -> Result<[i64; RUN_LENGTH], String> {
     let (_, numbers) = compare_lent(
-        &pattern(48),
+        &pattern(RUN_LENGTH + 2),
         |out| first(file, table, out),
         |out| {
             let run = second(file, table);
-            out[..46].copy_from_slice(&run.numbers());
+            out[..RUN_LENGTH].copy_from_slice(&run.numbers());
             run.refused
         },
         ONLY_WRONG_FORM,
         || format!("file\n{}table {}", hex(file), list(table)),
     )?;
-    Ok(numbers[..46].try_into().unwrap())
+    Ok(numbers[..RUN_LENGTH].try_into().unwrap())
 }
 
 /// Prepares a table with both; the answer and the first one's table.

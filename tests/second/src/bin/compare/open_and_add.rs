@@ -1,14 +1,14 @@
 //! A study as a list: opened, added to claim by claim, and with any numbers in it; and the window of a claim file's block 0.
 
 use crate::inputs::{closed_claim, flat_rates, sound_claims, spoil_record, STUDY_WINDOW};
-use crate::one_input::{compare_add, compare_open, compare_read_window, same, BLOCK, CELL, FULL, RATE_TABLE, WRONG_FORM};
+use crate::one_input::{compare_add, compare_open, compare_read_window, same, BENEFIT, BLOCK, CELL, FULL, RATE_TABLE, WRONG_FORM};
 use crate::{test, Outcome, Test};
 use second::block::{claim_record, seal, write_block, write_window, BLOCK_LENGTH, CLAIM_LENGTH, ZEROS_AT};
 use second::calendar::{Date, Day};
 use second::claim::{Claim, RECOVERY};
 use second::generate::{damage_claim, damage_file, damage_rates, sound_claim, sound_rates, sound_window, wild_date};
 use second::rng::Rng;
-use second::study::{Study, MOST_CLAIMS, MOST_EXPECTED, MOST_THIRTIETHS, STUDY_LENGTH};
+use second::study::{Study, GROUP_LENGTH, MOST_CLAIMS, MOST_EXPECTED, MOST_THIRTIETHS, STUDY_LENGTH, SUMS_AT, WEIGHTED_AT};
 
 pub const TESTS: &[Test] = &[
     test("opening: sound and wild dates", 39, opening),
@@ -25,7 +25,7 @@ pub const TESTS: &[Test] = &[
 const PAST: i64 = 1 << 32;
 
 fn opening(rng: &mut Rng) -> Outcome {
-    let (n, mut refused) = (40_000, 0);
+    let (n, mut refused) = (100_000, 0);
     for i in 0..n {
         let (first, last) = match i % 4 {
             0 => (wild_date(rng), wild_date(rng)),
@@ -113,17 +113,21 @@ fn adding(rng: &mut Rng) -> Outcome {
 
 /// The most that check 9 lets stand at a place of the list of numbers; days have none.
 fn most_at(place: usize) -> i64 {
-    match (place, (place.wrapping_sub(3)) % 8) {
-        (2, _) => MOST_CLAIMS as i64 - 1,
-        (_, 0) => MOST_THIRTIETHS,
-        (_, 1..=5) => MOST_CLAIMS as i64,
-        _ => MOST_EXPECTED,
+    if place < SUMS_AT {
+        return MOST_CLAIMS as i64 - 1;
     }
+    let times = if place < WEIGHTED_AT { 1 } else { 200 };
+    times
+        * match (place - SUMS_AT) % GROUP_LENGTH {
+            0 => MOST_THIRTIETHS,
+            1..=5 => MOST_CLAIMS as i64,
+            _ => MOST_EXPECTED,
+        }
 }
 
-/// Days, claims taken and closing counts.
+/// Days, claims taken, closing counts and weighted closing sums.
 fn is_unsigned(place: usize) -> bool {
-    place < 3 || (1..=5).contains(&((place - 3) % 8))
+    place < SUMS_AT || (1..=5).contains(&((place - SUMS_AT) % GROUP_LENGTH))
 }
 
 /// A study that check 9 lets pass, in a window for the claim, in a list that may be longer.
@@ -223,7 +227,7 @@ fn any_numbers(rng: &mut Rng) -> Outcome {
         answers[compare_add(&mut study, &record, &rates)? as usize] += 1;
     }
     // Every answer was had often.
-    for answer in (0..=FULL).chain([WRONG_FORM]) {
+    for answer in (0..=FULL).chain([BENEFIT, WRONG_FORM]) {
         let times = answers[answer as usize];
         same(times >= 500, true, || format!("answer {answer} only {times} times of {n}"))?;
     }
@@ -268,7 +272,7 @@ fn outside_fields(rng: &mut Rng) -> Outcome {
                 let mut study = passing_study(rng, &claim);
                 study[place] = number;
                 if rng.one_in(3) {
-                    study[rng.pick(&[0, 2, 3, 9])] = PAST - 1;
+                    study[rng.pick(&[0, 2, 3, 9, WEIGHTED_AT, WEIGHTED_AT + 1])] = PAST - 1;
                     study[place] = number;
                 }
                 if rng.one_in(4) {
@@ -318,7 +322,7 @@ fn wrong_form(rng: &mut Rng) -> Outcome {
                 must(&mut opened.to_vec(), &long, &rates, 0)?;
             }
         }
-        // Bytes that must be zero, and the byte before them.
+        // Bytes that must be zero, and the bytes before them.
         for at in ZEROS_AT..CLAIM_LENGTH {
             for byte in [1, 128, 255, rng.range(1, 255) as u8] {
                 let mut wrong = record;
@@ -327,8 +331,12 @@ fn wrong_form(rng: &mut Rng) -> Outcome {
                 must(&mut opened.to_vec(), &wrong, &[], WRONG_FORM)?;
             }
         }
-        let mut cell = record;
-        cell[ZEROS_AT - 1] = rng.range(1, 255) as u8;
+        let (mut benefit, mut cell) = (record, record);
+        for (high, wanted) in [(0, 0), (1, 0), (200, 0), (201, BENEFIT), (255, BENEFIT)] {
+            benefit[ZEROS_AT - 1] = high;
+            must(&mut opened.to_vec(), &benefit, &rates, wanted)?;
+        }
+        cell[ZEROS_AT - 2] = rng.range(1, 255) as u8;
         must(&mut opened.to_vec(), &cell, &rates, CELL)?;
         must(&mut opened.to_vec(), &record, &rates[1..], RATE_TABLE)?;
         must(&mut opened.to_vec(), &record, &[], RATE_TABLE)?;

@@ -7,10 +7,12 @@ use crate::one_input::{
 };
 use crate::{test, Outcome, Test};
 use second::calendar::Date;
-use second::claim::Claim;
+use second::claim::{Claim, MOST_BENEFIT};
 use second::generate::{claim_file, damage_claim, sound_rates, sound_window};
 use second::rates::{CELL_LENGTH, DURATIONS, MOST_CELLS};
 use second::rng::Rng;
+use second::run::RUN_LENGTH;
+use second::study::MOST_EXPECTED;
 
 pub const TESTS: &[Test] = &[
     test("preparing: tables of one or two cells, and again", 52, small_tables),
@@ -21,6 +23,7 @@ pub const TESTS: &[Test] = &[
     test("prepared: one kind of table in the place of the other", 57, other_tables),
     test("prepared: lists never prepared", 58, never_prepared),
     test("prepared: full by the sums of a list never prepared", 59, full_by_sums),
+    test("prepared: full by the weighted sums alone", 88, full_by_weighted_sums),
 ];
 
 /// The numbers of cells and a last one.
@@ -194,7 +197,7 @@ fn other_tables(rng: &mut Rng) -> Outcome {
         let claims = sound_claims(rng, 3, cells);
         let window = sound_window(rng, &claims[0]);
         let (file, no_claims) = (claim_file(window, &claims, None), claim_file(window, &[], None));
-        let refused = |numbers: [i64; 46]| [numbers[0], numbers[1], numbers[2], numbers[5]];
+        let refused = |numbers: [i64; RUN_LENGTH]| [numbers[0], numbers[1], numbers[2], numbers[5]];
         let mut must_refuse = |table: &[u32], prepared: bool| {
             let run = if prepared { compare_prepared_run } else { compare_plain_run };
             let input = || format!("{} numbers, the last one {:?}, as a prepared table: {prepared}", table.len(), table.last());
@@ -278,6 +281,34 @@ fn full_by_sums(rng: &mut Rng) -> Outcome {
         (cell[last - 1], cell[last]) = if i % 4 < 2 { (low, high) } else { (high, low) };
         let numbers = compare_prepared_run(&file, &table_of(&cell, 1))?;
         same(numbers[0], FULL as i64, || format!("{} claims taken", numbers[5]))?;
+    }
+    Ok(n)
+}
+
+/// Claims of two cells by turns, one with rates far above nothing and one as far below: their sums by count stay small, and the weighted
+/// ones go beyond their bounds where one cell's claims weigh more.
+fn full_by_weighted_sums(rng: &mut Rng) -> Outcome {
+    let n = 80;
+    let calendar = (Date::new(1950, 1, 1), Date::new(2099, 12, 31));
+    let longest = Claim { disability: Date::new(1950, 1, 1), bcd: Date::new(1950, 2, 1), ..Claim::default() };
+    for i in 0..n {
+        let last = if i % 2 == 0 { DURATIONS - 1 } else { CELL_LENGTH - 1 };
+        let mut cells = [0; 2].map(|_| flat_rates(0, 0));
+        let high = u32::MAX - rng.below(1 << 28) as u32;
+        let heavy = rng.below(2) as usize;
+        (cells[0][last], cells[1][last - 1]) = (high, high);
+        let claims: Vec<Claim> = (0..800)
+            .map(|number| Claim {
+                number,
+                cell: number as u16 % 2,
+                benefit: if number as usize % 2 == heavy { MOST_BENEFIT - rng.below(3) as u8 } else { rng.below(3) as u8 },
+                ..longest
+            })
+            .collect();
+        let numbers = compare_prepared_run(&claim_file(calendar, &claims, None), &table_of(&cells.concat(), 1))?;
+        let by_count = &numbers[6..46];
+        let within = by_count.chunks(8).all(|group| group[6].abs() <= MOST_EXPECTED && group[7].abs() <= MOST_EXPECTED);
+        same((numbers[0], within), (FULL as i64, true), || format!("{} claims taken, sums {by_count:?}", numbers[5]))?;
     }
     Ok(n)
 }

@@ -11,6 +11,7 @@ use second::ffi;
 use second::generate::{claim_file, sound_claim, sound_rates, sound_window};
 use second::months::listing;
 use second::rng::Rng;
+use second::run::RUN_LENGTH;
 use std::fmt::Debug;
 
 pub const TESTS: &[Test] = &[
@@ -58,7 +59,7 @@ fn too_short_by_any(rng: &mut Rng) -> Outcome {
     let rates = flat_rates(10_000, 5_000);
     let claim = closed_claim("2009-06-11", "2012-04-29", RECOVERY);
     let file = claim_file(STUDY_WINDOW, &[claim], None);
-    for length in 0..46 {
+    for length in 0..RUN_LENGTH {
         for (run, table) in runs(&rates) {
             too_short("study", length, -7, |out| run(&file, &table, out))?;
             too_short("study, no file", length, -7, |out| run(&[], &table, out))?;
@@ -121,9 +122,9 @@ fn too_short_by_one(rng: &mut Rng) -> Outcome {
         let file = claim_file((first, last), &[Claim { cell: 0, ..claim }], None);
         let input = || format!("file\n{}", hex(&file));
         for (run, table) in runs(&rates) {
-            too_short("study, out", 45, -7, |out| run(&file, &table, out))?;
-            same(run(&file, &table[1..], &mut [0; 46]), RATE_TABLE, input)?;
-            same(run(&file[..file.len() - 1], &table, &mut [0; 46]), BLOCK, input)?;
+            too_short("study, out", RUN_LENGTH - 1, -7, |out| run(&file, &table, out))?;
+            same(run(&file, &table[1..], &mut [0; RUN_LENGTH]), RATE_TABLE, input)?;
+            same(run(&file[..file.len() - 1], &table, &mut [0; RUN_LENGTH]), BLOCK, input)?;
             n += 3;
         }
 
@@ -167,9 +168,9 @@ fn too_short_and_refused(rng: &mut Rng) -> Outcome {
         let t = [1_000_000; 5];
         let file = claim_file((STUDY_WINDOW.1, STUDY_WINDOW.0), &[], None);
         for (run, table) in runs(&rates) {
-            too_short("study, a bad window", 45, -7, |out| run(&file, &table, out))?;
-            too_short("study, a part block", 45, -7, |out| run(&file[..511], &table, out))?;
-            too_short("study, no table", 45, -7, |out| run(&file, &[], out))?;
+            too_short("study, a bad window", RUN_LENGTH - 1, -7, |out| run(&file, &table, out))?;
+            too_short("study, a part block", RUN_LENGTH - 1, -7, |out| run(&file[..511], &table, out))?;
+            too_short("study, no table", RUN_LENGTH - 1, -7, |out| run(&file, &[], out))?;
             n += 3;
         }
         too_short("factor, group", 2, 7, |out| ffi::factor(rng.pick(&[0, 6, 255]), 10, 1_000_000, out))?;

@@ -7,6 +7,7 @@ use second::calendar::{Date, Day};
 use second::generate::{claim_file, damage_claim, damage_rates, sound_claim, sound_rates};
 use second::rates::CELL_LENGTH;
 use second::rng::Rng;
+use second::run::RUN_LENGTH;
 
 pub const TESTS: &[Test] = &[
     test("windows: parts total the whole, claims in any order", 15, any_order),
@@ -33,10 +34,10 @@ fn check_parts(
 ) -> Result<(), String> {
     let file = file_in(whole);
     let numbers = compare_file_study(&file, rates)?;
-    let mut total = [0; 40];
+    let mut total = [0; RUN_LENGTH - 6];
     for &part in parts {
         let part_numbers = compare_file_study(&file_in(part), rates)?;
-        let run = |numbers: &[i64; 46]| [numbers[0], numbers[1], numbers[2], numbers[5]];
+        let run = |numbers: &[i64; RUN_LENGTH]| [numbers[0], numbers[1], numbers[2], numbers[5]];
         same(run(&part_numbers), run(&numbers), || {
             format!("number, block, place and claims taken in the part {} to {} and the whole, file\n{}", part.0, part.1, hex(&file))
         })?;
