@@ -1,8 +1,10 @@
--- What the study layer means: document 01's section Study, and demand 3. `Private` has what only private functions' contracts cite.
+-- What the study layer means: document 01's section Study, demand 3, and document 02's requests. `Private` has what only private functions' contracts cite.
 pub mod Sums
 pub mod Study
 pub mod PreparedAdding
 pub mod Weighting
 pub mod DefinitionChange
 pub mod Demand3
+pub mod Withdrawing
+pub mod Moves
 pub mod Private

@@ -1,0 +1,83 @@
+-- The claims of a list: which it has, and that a sum over them depends on these alone.
+-- Assumes nothing.
+use Prim.Native.Nat.{ℕ, suc, _+_, _≤_, _<_}
+use mathlib.Core.Path.{_≡_, refl, sym, ap, _∙_, subst}
+use mathlib.Core.Bool.{true, and-eq-true-iff}
+use mathlib.Core.List.{List, [], _∷_}
+use lib.ListN.{length}
+use lib.Dec.{eqb}
+use borrow.Author.Tests.{eqb-true, eq-eqb}
+use Rattle.basics.specs.Pick.{pick}
+use Rattle.basics.proofs.Tests.{tests, by}
+use Rattle.calendar.specs.declared.Date.{Date}
+use Rattle.claim_months.specs.declared.Claim.{Claim}
+use Rattle.study.specs.Study.{sumOver}
+use Rattle.study.specs.Moves.{sameDate, sameClaim, timesIn, without}
+use Rattle.study.proofs.SumOver.{All, SameSums}
+
+-- `sameClaim` decides whether two claims are one
+same-date : (a b : Date) → sameDate a b ≡ true → a ≡ b
+unfolding sameDate
+same-date a b h =
+    let t = simp and-eq-true-iff at h in
+    let y : a .year ≡ b .year = omega tests in
+    let m : a .month ≡ b .month = omega tests in
+    let d : a .day ≡ b .day = omega tests in
+    λ i. record { year = y i; month = m i; day = d i }
+
+pub same-claim : (a b : Claim) → sameClaim a b ≡ true → a ≡ b
+unfolding sameClaim
+same-claim a b h =
+    let ((((((((n, d), e), t), m), s), k), l), g) = simp and-eq-true-iff at h in
+    λ i. record {
+      number = eqb-true (a .number) (b .number) n i;
+      disability = same-date (a .disability) (b .disability) d i;
+      bcd = same-date (a .bcd) (b .bcd) e i;
+      termination = same-date (a .termination) (b .termination) t i;
+      maximum = same-date (a .maximum) (b .maximum) m i;
+      status = eqb-true (a .status) (b .status) s i;
+      code = eqb-true (a .code) (b .code) k i;
+      cell = eqb-true (a .cell) (b .cell) l i;
+      benefit = eqb-true (a .benefit) (b .benefit) g i;
+    }
+
+eqb-self : (n : ℕ) → eqb n n ≡ true
+eqb-self n = eq-eqb n n refl
+
+pub claim-self : (c : Claim) → sameClaim c c ≡ true
+unfolding sameClaim sameDate
+claim-self c = simp eqb-self
+
+-- a claim that is among a list can be moved to its front
+pub to-front : (c : Claim) (cs : List Claim) → 0 < timesIn c cs → SameSums cs (c ∷ without c cs)
+unfolding timesIn without sumOver
+to-front c [] h A add z Good laws f good = absurd (omega tests)
+to-front c (x ∷ xs) h A add z Good laws f good =
+    let sum : List Claim → A = sumOver add z f in
+    by (sameClaim x c) (λ y. 0 < pick y 1 0 + timesIn c xs → add (f x) (sum xs) ≡ add (f c) (sum (pick y xs (x ∷ without c xs))))
+    (λ q u. ap (λ (e : Claim). add (f e) (sum xs)) (same-claim x c q))
+    (λ q u.
+    ap (add (f x)) (to-front c xs (omega tests) A add z Good laws f good) ∙ sym (laws .assoc (f x) (f c) (sum (without c xs)))
+    ∙ ap (λ (e : A). add e (sum (without c xs))) (laws .comm (f x) (f c)) ∙ laws .assoc (f c) (f x) (sum (without c xs)))
+    h
+
+-- what holds of every claim of a list holds of one that is among it, and of those that remain without it
+pub all-in : (P : Claim → Type 0) (c : Claim) (cs : List Claim) → All P cs → 0 < timesIn c cs → P c
+unfolding timesIn
+all-in P c [] a h = absurd (omega tests)
+all-in P c (x ∷ xs) a h =
+    by (sameClaim x c) (λ y. 0 < pick y 1 0 + timesIn c xs → P c) (λ q u. subst P (same-claim x c q) (a .0))
+    (λ q u. all-in P c xs (a .1) (omega tests)) h
+
+pub all-without : (P : Claim → Type 0) (c : Claim) (cs : List Claim) → All P cs → All P (without c cs)
+unfolding without
+all-without P c [] a = a
+all-without P c (x ∷ xs) a =
+    by (sameClaim x c) (λ y. All P (pick y xs (x ∷ without c xs))) (λ q. a .1) (λ q. (a .0, all-without P c xs (a .1)))
+
+pub length-without : (c : Claim) (cs : List Claim) → length (without c cs) ≤ length cs
+unfolding without
+length-without c [] = omega tests
+length-without c (x ∷ xs) =
+    let h = length-without c xs in
+    by (sameClaim x c) (λ y. length (pick y xs (x ∷ without c xs)) ≤ suc (length xs)) (λ q. omega tests) (λ q. omega tests)

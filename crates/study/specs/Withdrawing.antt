@@ -1,0 +1,58 @@
+-- Document 02, request No. 10: claims taken back.
+use Prim.Native.Nat.{ℕ, zero, suc, _-_}
+use mathlib.Core.Bool.{Bool, true, _&&_}
+use mathlib.Core.List.{List}
+use lib.ListN.{getD}
+use lib.Dec.{leb, ltb, eqb}
+use Rattle.basics.specs.Pick.{pick}
+use Rattle.basics.specs.Checks.{check, _then_, refuse-full, refuse-withdrawal}
+use Rattle.claim_months.specs.declared.Claim.{Claim}
+use Rattle.claim_months.specs.Claim.{claimCheck}
+use Rattle.claim_months.specs.Windows.{windowCheck}
+use Rattle.rates.specs.Rates.{rateCheck}
+use Rattle.study.specs.declared.Sums.{Sums}
+use Rattle.study.specs.declared.Study.{Study}
+use Rattle.study.specs.declared.Answer.{Answer}
+use Rattle.study.specs.Sums.{minus}
+use Rattle.study.specs.Study.{shareOf, weightedShare, sumsWithin}
+
+-- 9, as adding has it, save that a study of exactly 500,000 may be withdrawn from
+unfoldable pub withdrawRoom : Study → Bool
+withdrawRoom s = leb (s .taken) 500000 && sumsWithin (s .sums) (s .weighted)
+
+-- none of the first n counts of a list falls below zero if another list's are taken off; none of the 25 closing counts of some sums does
+unfoldable pub coversTo : List ℕ → List ℕ → ℕ → Bool
+coversTo xs ys zero = true
+coversTo xs ys (suc n) = coversTo xs ys n && leb (getD ys n 0) (getD xs n 0)
+
+unfoldable pub covers : Sums → Sums → Bool
+covers a b = coversTo (a .closings) (b .closings) 25
+
+-- 18: a study with no claims, or one in which a count or a weighted closing sum would fall below zero
+unfoldable pub canWithdraw : Study → Claim → List ℕ → Bool
+canWithdraw s c rates =
+    ltb 0 (s .taken) && covers (s .sums) (shareOf (s .window) rates c) && covers (s .weighted) (weightedShare (s .window) rates c)
+
+-- the number of the first check that fails, or 0: the checks of adding in their order, then 18
+unfoldable pub withdrawCheck : Study → Claim → List ℕ → ℕ
+withdrawCheck s c rates =
+    windowCheck (s .window .first .0) (s .window .last .0)
+    then claimCheck c
+    then rateCheck rates (c .cell)
+    then check (withdrawRoom s) refuse-full
+    then check (canWithdraw s c rates) refuse-withdrawal
+
+-- a study without one of its claims
+unfoldable pub withoutClaim : Study → Claim → List ℕ → Study
+withoutClaim s c rates =
+    record {
+      window = s .window;
+      taken = s .taken - 1;
+      sums = minus (s .sums) (shareOf (s .window) rates c);
+      weighted = minus (s .weighted) (weightedShare (s .window) rates c);
+    }
+
+-- Withdrawing takes study, claim and rates. A refusal gives its number and the study as given
+unfoldable pub withdrawn : Study → Claim → List ℕ → Answer
+withdrawn s c rates =
+    record { refused = withdrawCheck s c rates; study = pick (eqb (withdrawCheck s c rates) 0) (withoutClaim s c rates) s }
