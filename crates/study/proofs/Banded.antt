@@ -23,7 +23,7 @@ size-opposite (pos zero) = refl
 size-opposite (pos (suc n)) = refl
 size-opposite (negsuc n) = refl
 
-size-difference : (x y : ℤ) → natAbs (x -ℤ y) ≤ natAbs x + natAbs y
+pub size-difference : (x y : ℤ) → natAbs (x -ℤ y) ≤ natAbs x + natAbs y
 size-difference x y = omega (arith, size-sum x (negℤ y), size-opposite y)
 
 -- the rate of one duration times thirtieths

@@ -95,7 +95,7 @@ records-sized m recovery death p q c ok b e =
       deaths = entry 5 (m * 30 * 1800) _ (λ k. expected-size m death q c b e (k + 1));
     }
 
-share-sized : (w : Window) (rates : List ℕ) (c : Claim) → Accepted rates c → Sized 54000000000 1 (shareOf w rates c)
+pub share-sized : (w : Window) (rates : List ℕ) (c : Claim) → Accepted rates c → Sized 54000000000 1 (shareOf w rates c)
 unfolding shareOf
 share-sized w rates c ok =
     let passed = accepted-rates rates c ok in
@@ -156,7 +156,7 @@ sized-more x m n s h p =
       deaths = z x (s .deaths) (p .deaths);
     }
 
-weighted-sized : (w : Window) (rates : List ℕ) (c : Claim) → Accepted rates c → Sized 54000000000 200 (weightedShare w rates c)
+pub weighted-sized : (w : Window) (rates : List ℕ) (c : Claim) → Accepted rates c → Sized 54000000000 200 (weightedShare w rates c)
 unfolding weightedShare
 weighted-sized w rates c ok =
     let h = weight-high c (accepted-checks rates c ok) in

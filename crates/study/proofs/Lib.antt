@@ -2,7 +2,7 @@
 -- sums it. `Raised`: a span's share band by band. `WithSpan`: adding a span is adding its month records. `Bounds`: sums within bounds. `RoomBounds`: room
 -- for claims. `Capacity`: check 9 never fires under 500,000 claims. `LentSums`: adding told that there is room. `Built`: a run's study is that of its
 -- accepted claims. `Totals`: studies over parts total. `DefinitionChanges`: code 6 counts as a recovery. `Demand3`: the theorem. `Weights`: claims that
--- weigh one each. `Members`: the claims of a list. `TakenBack`: claims withdrawn.
+-- weigh one each. `Members`: the claims of a list. `TakenBack`: claims withdrawn. `Covering`, `OwnShare`, `Withdrawals`: what a withdrawal's code computes.
 pub mod Algebra
 pub mod SumOver
 mod Places
@@ -22,3 +22,6 @@ pub mod Demand3
 pub mod Weights
 pub mod Members
 pub mod TakenBack
+mod Covering
+mod OwnShare
+mod Withdrawals

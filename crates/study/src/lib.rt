@@ -12,6 +12,7 @@ mod group_figures;
 pub mod room;
 mod share;
 mod sums_algebra;
+mod withdrawing;
 
 use basics::refusal;
 use calendar::Date;
@@ -58,6 +59,13 @@ pub struct Study {
 pub struct Answer {
     pub refused: u8,
     pub study: Study,
+}
+
+// A claim's share of both sets, with the number of the first of the checks 1 to 8 and 16 that fails, or 0; no share beside a refusal.
+struct ClaimShare {
+    refused: u8,
+    sums: Sums,
+    weighted: Sums,
 }
 
 // A study with no claims taken and zero sums in both sets.
