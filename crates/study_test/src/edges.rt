@@ -93,7 +93,7 @@ pub(crate) fn given() -> Study {
     made(21550, 24836, 7)
 }
 
-fn full() -> Study {
+pub(crate) fn full() -> Study {
     made(21550, 24836, 500000)
 }
 
@@ -197,7 +197,7 @@ pub(crate) fn changed(sums: [i64; 5], place: usize, sum: i64) -> [i64; 5]
     after
 }
 
-fn with_sum(field: u8, place: usize, sum: i64) -> Study
+pub(crate) fn with_sum(field: u8, place: usize, sum: i64) -> Study
     requires { ⌜ place < 5 ⌝ }
 {
     let mut study = given();

@@ -1,9 +1,10 @@
 // Runs studies of one list of claims over windows and their parts, each in an order of its own. Prints every figure, whether the parts'
-// figures add up to the undivided window's, and what adding to studies at the edges of the checks answers.
+// figures add up to the undivided window's, and what adding to studies, and withdrawing from them, answers at the edges of the checks.
 mod claims;
 mod edges;
 mod figures;
 mod weights;
+mod withdrawals;
 
 use claims::CLAIMS;
 use claims::claim;
@@ -20,6 +21,7 @@ use test_support::print::put;
 use test_support::print::put_next;
 use test_support::print::put_number;
 use weights::weights;
+use withdrawals::withdrawals;
 
 fn main() {
     let table = rate_table();
@@ -29,6 +31,7 @@ fn main() {
     changed(&table);
     edges(&table);
     weights(&table);
+    withdrawals(&table);
 }
 
 // Two cells. The rates of cell 0 differ at every duration; those of cell 1 are together 1,000,000, and at duration 300 one more.

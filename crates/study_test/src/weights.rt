@@ -42,7 +42,7 @@ pub(crate) fn weights(table: &[u32; 1916]) {
 }
 
 // A claim of the list with a benefit.
-fn weighing(place: u32, benefit: u8) -> Claim {
+pub(crate) fn weighing(place: u32, benefit: u8) -> Claim {
     let mut found = claim(place);
     found.benefit = benefit;
     found
@@ -63,7 +63,7 @@ fn alone(benefit: u8, table: &[u32; 1916]) {
     }
 }
 
-fn with_claim(study: Study, place: u32, benefit: u8, table: &[u32; 1916]) -> Study {
+pub(crate) fn with_claim(study: Study, place: u32, benefit: u8, table: &[u32; 1916]) -> Study {
     let answer = study.add(weighing(place, benefit), table);
     answer.study
 }
