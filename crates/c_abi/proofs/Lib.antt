@@ -1,6 +1,6 @@
--- What the proofs of the calls cite. `StudyForms`: the form of a study. `AddAnswers`: which tests lead to which answer of `ltd_add`.
+-- What the proofs of the calls cite. `StudyForms`: the form of a study. `ClaimAnswers`: which tests lead to which answer of `ltd_add` and `ltd_withdraw`.
 -- `Records`: records one after another. `FiveNumbers`: a list of five T.
 mod StudyForms
-mod AddAnswers
+mod ClaimAnswers
 mod Records
 mod FiveNumbers

@@ -1,4 +1,4 @@
--- The calls on a study that is a lent list of numbers: ltd_open and ltd_add.
+-- The calls on a study that is a lent list of numbers: ltd_open, ltd_add and ltd_withdraw.
 use Prim.Native.Nat.{ℕ, zero, suc, _+_, _*_, _/_, _%_}
 use mathlib.Core.Bool.{Bool, true, false, _&&_}
 use mathlib.Core.List.{List}
@@ -8,10 +8,10 @@ use lib.Dec.{leb, eqb}
 use lib.IntN.{ℤ, pos, negsuc, natAbs}
 use Rattle.basics.specs.Pick.{pick}
 use Rattle.basics.specs.Tables.{table}
+use Rattle.claim_months.specs.declared.Claim.{Claim}
 use Rattle.study.specs.declared.Study.{Study}
 use Rattle.study.specs.declared.Sums.{Sums}
 use Rattle.study.specs.declared.Answer.{Answer}
-use Rattle.study.specs.Study.{added}
 use Rattle.claim_file.specs.declared.MaybeClaim.{MaybeClaim}
 use Rattle.claim_file.specs.declared.MaybeClaim.the-variants.{Found, NoRecord}
 use Rattle.claim_file.specs.BlockAnswers.{recordIn}
@@ -56,15 +56,19 @@ studyIn xs =
       weighted = sumsIn xs 43;
     }
 
--- adding the claim of a record: 255 where the list has no record
-unfoldable pub addedTo : Study → MaybeClaim → List ℕ → Answer
-addedTo s (Found c) rates = added s c rates
-addedTo s NoRecord rates = record { refused = 255; study = s }
+-- what a study makes of a claim with some rates: adding it, or withdrawing it
+abbrev pub Taking : Type 0
+Taking = Study → Claim → List ℕ → Answer
 
--- ltd_add: 255 for a study or a record that has not its form; the list afterwards, untouched by any refusal
-unfoldable pub addAnswer : List ℤ → List ℕ → List ℕ → ℕ
-addAnswer xs claim rates = pick (studyForm xs) (addedTo (studyIn xs) (recordIn claim 0) rates .refused) 255
+-- the same of the claim of a record: 255 where the list has no record
+unfoldable pub takenFrom : Taking → Study → MaybeClaim → List ℕ → Answer
+takenFrom take s (Found c) rates = take s c rates
+takenFrom take s NoRecord rates = record { refused = 255; study = s }
 
-unfoldable pub addAfter : List ℤ → List ℕ → List ℕ → List ℤ
-addAfter xs claim rates =
-    pick (eqb (addAnswer xs claim rates) 0) (sets xs 0 (studyNumbers (addedTo (studyIn xs) (recordIn claim 0) rates .study))) xs
+-- ltd_add and ltd_withdraw: 255 for a study or a record that has not its form; the list afterwards, untouched by any refusal
+unfoldable pub claimAnswer : Taking → List ℤ → List ℕ → List ℕ → ℕ
+claimAnswer take xs claim rates = pick (studyForm xs) (takenFrom take (studyIn xs) (recordIn claim 0) rates .refused) 255
+
+unfoldable pub claimAfter : Taking → List ℤ → List ℕ → List ℕ → List ℤ
+claimAfter take xs claim rates =
+    pick (eqb (claimAnswer take xs claim rates) 0) (sets xs 0 (studyNumbers (takenFrom take (studyIn xs) (recordIn claim 0) rates .study))) xs

@@ -1,4 +1,4 @@
-// The calls that open a study and add a claim to it. A study is a lent list of 83 numbers, a claim the record of a claim file.
+// The calls that open a study, add a claim to it and withdraw one. A study is a lent list of 83 numbers, a claim the record of a claim file.
 ghost use mathlib.Core.Path.{_≡_};
 ghost use mathlib.Core.Bool.{true};
 ghost use Prim.Native.Nat.{_+_, _*_, _≤_};
@@ -7,11 +7,12 @@ ghost use lib.IntN.{pos, natAbs};
 ghost use lib.ListN.{length, getD};
 ghost use lib.Seq.{sets};
 ghost use Rattle.basics.specs.Tables.{table};
-ghost use Rattle.study.specs.Study.{opened};
+ghost use Rattle.study.specs.Withdrawing.{withdrawn};
+ghost use Rattle.study.specs.Study.{opened, added};
 ghost use Rattle.study_list.specs.Lent.{answered, stored};
 ghost use Rattle.study_list.specs.StudyList.{studyNumbers};
 ghost use Rattle.c_abi.specs.Abi.{dateIn};
-ghost use Rattle.c_abi.specs.StudyCalls.{isWord, closingAt, countsAreWords, studyForm, sumsIn, studyIn, addAnswer, addAfter};
+ghost use Rattle.c_abi.specs.StudyCalls.{isWord, closingAt, countsAreWords, studyForm, sumsIn, studyIn, claimAnswer, claimAfter};
 use crate::listing::date_in;
 use calendar::Day;
 use claim_file::MaybeClaim;
@@ -175,8 +176,8 @@ pub extern "C" fn ltd_open(first: u32, last: u32, study: &mut [i64]) -> u8
 // Adds a claim to a study.
 #[no_mangle]
 pub extern "C" fn ltd_add(study: &mut [i64], claim: &[u8], rates: &[u32]) -> u8
-    ensures { λ r. ⌜ r ≡ addAnswer (now (study .entry)) (now (claim .entry)) (now (rates .entry)) ⌝ }
-    ensures { λ _. ⌜ now (study .exit) ≡ addAfter (now (study .entry)) (now (claim .entry)) (now (rates .entry)) ⌝ }
+    ensures { λ r. ⌜ r ≡ claimAnswer added (now (study .entry)) (now (claim .entry)) (now (rates .entry)) ⌝ }
+    ensures { λ _. ⌜ now (study .exit) ≡ claimAfter added (now (study .entry)) (now (claim .entry)) (now (rates .entry)) ⌝ }
 {
     if !is_study(study) {
         return 255;
@@ -185,6 +186,27 @@ pub extern "C" fn ltd_add(study: &mut [i64], claim: &[u8], rates: &[u32]) -> u8
         return 255;
     };
     let answer = study_in(study).add(read, rates);
+    if answer.refused != 0 {
+        return answer.refused;
+    }
+    let after = answer.study;
+    put_study(after, 0, study);
+    0
+}
+
+// Withdraws a claim from a study.
+#[no_mangle]
+pub extern "C" fn ltd_withdraw(study: &mut [i64], claim: &[u8], rates: &[u32]) -> u8
+    ensures { λ r. ⌜ r ≡ claimAnswer withdrawn (now (study .entry)) (now (claim .entry)) (now (rates .entry)) ⌝ }
+    ensures { λ _. ⌜ now (study .exit) ≡ claimAfter withdrawn (now (study .entry)) (now (claim .entry)) (now (rates .entry)) ⌝ }
+{
+    if !is_study(study) {
+        return 255;
+    }
+    let MaybeClaim::Found(read) = claim_file::record::read_record(claim, 0) else {
+        return 255;
+    };
+    let answer = study_in(study).withdraw(read, rates);
     if answer.refused != 0 {
         return answer.refused;
     }

@@ -9,19 +9,19 @@ use Rattle.study.specs.Study.{added}
 use Rattle.c_abi.specs.StudyCalls.{studyForm}
 use Rattle.study_list.proofs.Lent.{in-room}
 use Rattle.c_abi.proofs.StudyForms.{form}
-use Rattle.c_abi.proofs.AddAnswers.{no-study, no-record, refused, taken}
+use Rattle.c_abi.proofs.ClaimAnswers.{no-study, no-record, refused, taken}
 use Rattle.c_abi.proofs.study_calls.ltd_add.Statement.{statement}
 use Rattle.c_abi.proofs.study_calls.ltd_add.Tie as tie
 
 returns : tie.Need-returns
-returns c = no-study _ _ _ (sym (c .before .is-study .ensures) ∙ not-true _ (c .if1 .taken))
+returns c = no-study added _ _ _ (sym (c .before .is-study .ensures) ∙ not-true _ (c .if1 .taken))
 
 -- past the first test the list has the form of a study
 formed : (c : tie.Else1) → studyForm (c .before .before .before .before .before .args .study .now) ≡ true
 formed c = sym (c .before .is-study .ensures) ∙ not-false _ (c .if1 .left)
 
 returns-2 : tie.Need-returns-2
-returns-2 c = no-record _ _ _ (formed (c .before .before .before)) (sym (c .enum-told .given .1) ∙ c .before .before .read-record .ensures)
+returns-2 c = no-record added _ _ _ (formed (c .before .before .before)) (sym (c .enum-told .given .1) ∙ c .before .before .read-record .ensures)
 
 study-in-requires : tie.Need-study-in-requires
 study-in-requires c κs = formed (c .before .before .before .before .before)
@@ -31,7 +31,7 @@ returns-3 c =
     let a = c .before .before in
     let r = a .before .before .before .before in
     let g = c .before .before .before .before .before .before .before .before .before .before .before .before .before .before .args in
-    refused (g .study .now) (g .claim .now) (g .rates .now) (formed (c .before .before .before .before .before .before .before .before .before)) _ (sym (r .read .given .1) ∙ r .before .before .read-record .ensures) (a .add .result)
+    refused added (g .study .now) (g .claim .now) (g .rates .now) (formed (c .before .before .before .before .before .before .before .before .before)) _ (sym (r .read .given .1) ∙ r .before .before .read-record .ensures) (a .add .result)
     (a .add .ensures ∙ ap (λ (s : Study). added s (r .read .given .0 .0) (g .rates .now)) (a .before .study-in .ensures)) (λ z. omega (arith, c .if2 .taken))
 
 returns-4 : tie.Need-returns-4
@@ -39,7 +39,7 @@ returns-4 c =
     let a = c .before .before .before .before .before .before in
     let r = a .before .before .before .before in
     let g = c .before .before .before .before .before .before .before .before .before .before .before .before .before .before .before .before .before .before .args in
-    taken (g .study .now) (g .claim .now) (g .rates .now) (formed (c .before .before .before .before .before .before .before .before .before .before .before .before .before)) _ (sym (r .read .given .1) ∙ r .before .before .read-record .ensures) (a .add .result)
+    taken added (g .study .now) (g .claim .now) (g .rates .now) (formed (c .before .before .before .before .before .before .before .before .before .before .before .before .before)) _ (sym (r .read .given .1) ∙ r .before .before .read-record .ensures) (a .add .result)
     (a .add .ensures ∙ ap (λ (s : Study). added s (r .read .given .0 .0) (g .rates .now)) (a .before .study-in .ensures)) (omega (arith, c .before .before .before .before .if2 .left)) _
     (in-room 83 (g .study .now) _ _ (form _ (formed (c .before .before .before .before .before .before .before .before .before .before .before .before .before)) .room) (c .before .put-study .ensures .1))
 
