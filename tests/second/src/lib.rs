@@ -40,6 +40,7 @@ pub enum Refusal {
     Discount = 13,
     Benefit = 16,
     OpenClaims = 17,
+    NotTaken = 18,
     NoSuchCount = 19,
 }
 

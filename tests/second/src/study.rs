@@ -1,7 +1,7 @@
-//! Study: its sums by duration group, by count and weighted by benefit, opening, and the adding of claims.
+//! Study: its sums by duration group, by count and weighted by benefit, opening, and the adding and withdrawing of claims.
 
 use crate::calendar::{Date, Day};
-use crate::claim::{Claim, Duration, MOST_BENEFIT};
+use crate::claim::{CheckedClaim, Claim, Duration, MOST_BENEFIT};
 use crate::months::{month_records, Window};
 use crate::rates::{Rates, RatesByDuration};
 use crate::Refusal;
@@ -51,6 +51,20 @@ impl GroupSums {
         }
         self.expected_recoveries += other.expected_recoveries;
         self.expected_deaths += other.expected_deaths;
+    }
+
+    /// None if a closing count or sum would fall below zero.
+    fn minus(&self, other: &GroupSums) -> Option<GroupSums> {
+        let mut closings = self.closings;
+        for (count, less) in closings.iter_mut().zip(other.closings) {
+            *count = count.checked_sub(less)?;
+        }
+        Some(GroupSums {
+            thirtieths: self.thirtieths - other.thirtieths,
+            closings,
+            expected_recoveries: self.expected_recoveries - other.expected_recoveries,
+            expected_deaths: self.expected_deaths - other.expected_deaths,
+        })
     }
 
     fn times(&self, weight: u8) -> GroupSums {
@@ -131,48 +145,76 @@ impl Study {
 
     /// Checks 1 to 9 and 16; a refused claim leaves the study as it was.
     pub fn add<R: Rates>(&mut self, claim: &Claim, rates: &R) -> Result<(), Refusal> {
-        self.window.check()?;
-        let claim = claim.check()?;
-        let cell = rates.cell(claim.cell.into())?;
-        self.check_room()?;
-
-        // The months of a group follow each other: sum up each run before adding it to the study.
-        let mut group = 1;
-        let mut sums = GroupSums::default();
-        for record in month_records(&claim, self.window) {
-            let record_group = duration_group(record.duration);
-            if record_group != group {
-                self.take(group, &sums, claim.weight);
-                (group, sums) = (record_group, GroupSums::default());
-            }
-            let (recovery, death) = cell.at(record.duration);
-            let thirtieths = record.thirtieths.0 as i64;
-            sums.thirtieths += thirtieths;
-            sums.expected_recoveries += thirtieths * recovery;
-            sums.expected_deaths += thirtieths * death;
-            if record.category != 0 {
-                sums.closings[record.category as usize - 1] += 1;
-            }
-        }
-        self.take(group, &sums, claim.weight);
+        let (claim, cell) = self.check_claim(claim, rates)?;
+        self.check_room(MOST_CLAIMS - 1)?;
+        each_share(&claim, self.window, &cell, |group, share| {
+            self.groups[group - 1].add(share);
+            self.weighted[group - 1].add(&share.times(claim.weight));
+        });
         self.claims_taken += 1;
         Ok(())
     }
 
-    /// Adds a claim's share of a group to both sets.
-    fn take(&mut self, group: usize, share: &GroupSums, weight: u8) {
-        self.groups[group - 1].add(share);
-        self.weighted[group - 1].add(&share.times(weight));
+    /// Takes a claim back. Checks as adding, save that 500,000 claims may be taken; then 18: no claims taken, or a closing count or a weighted
+    /// closing sum that would fall below zero. A refused claim leaves the study as it was.
+    pub fn withdraw<R: Rates>(&mut self, claim: &Claim, rates: &R) -> Result<(), Refusal> {
+        let (claim, cell) = self.check_claim(claim, rates)?;
+        self.check_room(MOST_CLAIMS)?;
+        *self = self.without(&claim, &cell).ok_or(Refusal::NotTaken)?;
+        Ok(())
     }
 
-    /// Check 9.
-    fn check_room(&self) -> Result<(), Refusal> {
+    fn without(&self, claim: &CheckedClaim, cell: &impl RatesByDuration) -> Option<Study> {
+        let mut shares = [GroupSums::default(); 5];
+        each_share(claim, self.window, cell, |group, share| shares[group - 1] = *share);
+        let mut left = Study { claims_taken: self.claims_taken.checked_sub(1)?, ..*self };
+        for (group, share) in left.groups.iter_mut().zip(&shares) {
+            *group = group.minus(share)?;
+        }
+        for (group, share) in left.weighted.iter_mut().zip(&shares) {
+            *group = group.minus(&share.times(claim.weight))?;
+        }
+        Some(left)
+    }
+
+    /// Checks 1 to 8 and 16.
+    fn check_claim<R: Rates>(&self, claim: &Claim, rates: &R) -> Result<(CheckedClaim, R::Cell), Refusal> {
+        self.window.check()?;
+        let claim = claim.check()?;
+        let cell = rates.cell(claim.cell.into())?;
+        Ok((claim, cell))
+    }
+
+    /// Check 9, with at most so many claims taken.
+    fn check_room(&self, most_taken: u32) -> Result<(), Refusal> {
         let within =
             self.groups.iter().all(|group| group.is_within(1)) && self.weighted.iter().all(|group| group.is_within(WEIGHTED_BOUNDS));
-        if self.claims_taken < MOST_CLAIMS && within {
+        if self.claims_taken <= most_taken && within {
             Ok(())
         } else {
             Err(Refusal::Full)
         }
     }
+}
+
+/// Hands a claim's share of each duration group that its months lie in to `take`, by count. The months of a group follow each other.
+fn each_share(claim: &CheckedClaim, window: Window, cell: &impl RatesByDuration, mut take: impl FnMut(usize, &GroupSums)) {
+    let mut group = 1;
+    let mut sums = GroupSums::default();
+    for record in month_records(claim, window) {
+        let record_group = duration_group(record.duration);
+        if record_group != group {
+            take(group, &sums);
+            (group, sums) = (record_group, GroupSums::default());
+        }
+        let (recovery, death) = cell.at(record.duration);
+        let thirtieths = record.thirtieths.0 as i64;
+        sums.thirtieths += thirtieths;
+        sums.expected_recoveries += thirtieths * recovery;
+        sums.expected_deaths += thirtieths * death;
+        if record.category != 0 {
+            sums.closings[record.category as usize - 1] += 1;
+        }
+    }
+    take(group, &sums);
 }

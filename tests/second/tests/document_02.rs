@@ -5,6 +5,7 @@ use second::calendar::{Date, Day};
 use second::claim::{Claim, Duration, CHANGE_OF_DEFINITION, MAX_OUT, RECOVERY, SETTLEMENT};
 use second::examples::{closed_claim, date, day, flat_rates, open_claim, rows_in, STUDY_WINDOW};
 use second::generate::{claim_file, sound_claim, sound_rates, sound_window};
+use second::months::Window;
 use second::rates::{RateTable, Rates, RatesByDuration, CELL_LENGTH};
 use second::report::{decode_rates, report};
 use second::rng::Rng;
@@ -237,6 +238,154 @@ fn the_weighted_sums_of_the_parts_total_those_of_the_whole() {
             assert_eq!(whole[place], parts.iter().map(|part| part[place]).sum::<i64>(), "place {place}");
         }
     }
+}
+
+// No. 10: claims taken back.
+
+/// The study of some claims in a window.
+fn study_of((first, last): (Date, Date), claims: &[Claim], rates: &[u32]) -> Study {
+    let (mut study, table) = (Study::open(first, last).unwrap(), RateTable::new(rates));
+    claims.iter().for_each(|claim| study.add(claim, &table).unwrap());
+    study
+}
+
+/// Withdraws, and holds a refusal to leaving the study as it was.
+fn withdrawn(study: &Study, claim: &Claim, rates: &[u32]) -> Result<Study, u8> {
+    let mut after = *study;
+    match after.withdraw(claim, &RateTable::new(rates)) {
+        Ok(()) => Ok(after),
+        Err(refusal) => {
+            assert_eq!(after, *study);
+            Err(refusal.number())
+        }
+    }
+}
+
+/// Additions and withdrawals of records taken before, in any order: in each part of a window and in the whole the study is that of the
+/// claims remaining, so the parts total the whole.
+#[test]
+fn the_study_is_that_of_the_claims_remaining() {
+    let mut rng = Rng::new(106);
+    for _ in 0..200 {
+        let rates = sound_rates(&mut rng, 4);
+        let table = RateTable::new(&rates);
+        let about = sound_claim(&mut rng);
+        let (first, last) = sound_window(&mut rng, &about);
+        let [first, last] = [first, last].map(|date| date.day_number().unwrap());
+        let cut = Day(rng.range(first.0 as i64, last.0 as i64) as i32);
+        let mut windows = vec![(first, last), (first, cut)];
+        if cut < last {
+            windows.push((cut + 1, last));
+        }
+        let windows: Vec<(Date, Date)> = windows.iter().map(|(first, last)| (first.date(), last.date())).collect();
+        let mut studies: Vec<Study> = windows.iter().map(|&(first, last)| Study::open(first, last).unwrap()).collect();
+        let mut remaining: Vec<Claim> = Vec::new();
+        for _ in 0..40 {
+            let withdraws = !remaining.is_empty() && rng.one_in(2);
+            let claim = match rng.below(3) {
+                _ if withdraws => remaining.swap_remove(rng.below(remaining.len() as u64) as usize),
+                0 => about,
+                _ => sound_claim(&mut rng),
+            };
+            for study in &mut studies {
+                if withdraws { study.withdraw(&claim, &table) } else { study.add(&claim, &table) }.unwrap();
+            }
+            if !withdraws {
+                remaining.push(claim);
+            }
+        }
+        for (&window, study) in windows.iter().zip(&studies) {
+            assert_eq!(*study, study_of(window, &remaining, &rates));
+        }
+        let numbers: Vec<_> = studies.iter().map(Study::numbers).collect();
+        for place in 3..numbers[0].len() {
+            assert_eq!(numbers[0][place], numbers[1..].iter().map(|part| part[place]).sum::<i64>());
+        }
+    }
+}
+
+#[test]
+fn withdrawing_checks_what_adding_does_save_that_500_000_may_be_taken() {
+    let rates = flat_rates(400_000, 600_000);
+    let claim = closed_claim("2011-02-10", "2012-05-20", RECOVERY);
+    let one = study_of(STUDY_WINDOW, &[claim], &rates);
+    let none = Study::open(STUDY_WINDOW.0, STUDY_WINDOW.1).unwrap();
+    assert_eq!(withdrawn(&one, &claim, &rates), Ok(none));
+    for (taken, answer) in [(0, Some(18)), (1, None), (499_999, None), (500_000, None), (500_001, Some(9)), (u32::MAX, Some(9))] {
+        let study = Study { claims_taken: taken, ..one };
+        assert_eq!(withdrawn(&study, &claim, &rates).err(), answer, "{taken}");
+    }
+    // Each check comes before 18.
+    let bad = Date::new(2011, 2, 29);
+    let wrong_window = Study { window: Window { first: Day(2), last: Day(1) }, ..none };
+    assert_eq!(withdrawn(&wrong_window, &Claim { maximum: bad, ..claim }, &[]), Err(1));
+    let short = Claim { disability: date("2011-02-10"), ..claim };
+    for (claim, rates, number) in [
+        (Claim { maximum: bad, code: 7, ..claim }, &rates[1..], 2),
+        (Claim { code: 7, termination: date("2011-02-09"), ..claim }, &rates[1..], 3),
+        (Claim { termination: date("2011-02-09"), benefit: 201, ..claim }, &rates[1..], 4),
+        (Claim { benefit: 201, ..short }, &rates[1..], 16),
+        (short, &rates[1..], 5),
+        (Claim { cell: 1, ..claim }, &rates[1..], 6),
+        (Claim { cell: 1, ..claim }, &rates[..], 7),
+        (claim, &flat_rates(400_000, 600_001)[..], 8),
+        (claim, &rates[..], 18),
+    ] {
+        assert_eq!(withdrawn(&none, &claim, rates), Err(number));
+    }
+    let mut full = none;
+    full.weighted[4].expected_deaths = 5_400_000_000_000_000_001;
+    assert_eq!(withdrawn(&full, &claim, &rates), Err(9));
+    full.weighted[4].expected_deaths = 0;
+    full.groups[0].closings[4] = 500_001;
+    assert_eq!(withdrawn(&full, &claim, &rates), Err(9));
+}
+
+#[test]
+fn no_closing_falls_below_zero() {
+    let rates = flat_rates(400_000, 600_000);
+    let claim = Claim { benefit: 7, ..closed_claim("2011-02-10", "2012-05-20", RECOVERY) };
+    let opened = Study { claims_taken: 1, ..Study::open(STUDY_WINDOW.0, STUDY_WINDOW.1).unwrap() };
+    // Closed in its 19th month, of group 2.
+    for (count, sum, answer) in
+        [(1, 7, None), (0, 7, Some(18)), (1, 6, Some(18)), (0, 0, Some(18)), (2, 8, None), (500_000, 100_000_000, None)]
+    {
+        let mut study = opened;
+        (study.groups[1].closings[0], study.weighted[1].closings[0]) = (count, sum);
+        let left = withdrawn(&study, &claim, &rates);
+        assert_eq!(left.err(), answer);
+        if let Ok(left) = left {
+            assert_eq!((left.groups[1].closings[0], left.weighted[1].closings[0], left.claims_taken), (count - 1, sum - 7, 0));
+        }
+        // A closing of another category or group is of no use.
+        (study.groups[1].closings[1], study.weighted[1].closings[1]) = (9, 90);
+        (study.groups[2].closings[0], study.weighted[2].closings[0]) = (9, 90);
+        assert_eq!(withdrawn(&study, &claim, &rates).err(), answer);
+    }
+    // A claim not closed in the window takes no closing with it, and one without months nothing but itself.
+    let not_closed = Claim { benefit: 200, ..open_claim("2011-02-10") };
+    assert_eq!(withdrawn(&opened, &not_closed, &rates).map(|left| left.weighted[1].thirtieths), Ok(-200 * 30 * 21));
+    let early = closed_claim("2001-02-10", "2003-02-10", RECOVERY);
+    assert_eq!(withdrawn(&opened, &early, &rates), Ok(Study { claims_taken: 0, ..opened }));
+}
+
+#[test]
+fn a_withdrawal_may_take_a_sum_past_its_bounds() {
+    let rates = flat_rates(400_000, 600_000);
+    let claim = Claim { benefit: 200, ..open_claim("2011-02-10") };
+    let mut study = Study { claims_taken: 500_000, ..Study::open(STUDY_WINDOW.0, STUDY_WINDOW.1).unwrap() };
+    for sums in &mut study.groups {
+        (sums.thirtieths, sums.expected_recoveries, sums.expected_deaths) =
+            (-27_000_000_000, -27_000_000_000_000_000, -27_000_000_000_000_000);
+    }
+    for sums in &mut study.weighted {
+        (sums.thirtieths, sums.expected_recoveries) = (-5_400_000_000_000, -5_400_000_000_000_000_000);
+        sums.expected_deaths = sums.expected_recoveries;
+    }
+    let left = withdrawn(&study, &claim, &rates).unwrap();
+    assert_eq!((left.claims_taken, left.groups[1].thirtieths), (499_999, -27_000_000_000 - 630));
+    assert_eq!(left.weighted[1].expected_deaths, -5_400_000_000_000_000_000 - 200 * 630 * 600_000);
+    assert_eq!(withdrawn(&left, &claim, &rates), Err(9));
 }
 
 // No. 9: the 1.30 limit judged on reserves.
