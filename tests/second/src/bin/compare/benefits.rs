@@ -1,17 +1,16 @@
 //! Benefits: every number in a record, the place of refusal 16 among the checks, and the weighted set, which is each claim's share times its
 //! benefit.
 
+use crate::faults::{Faulty, FAULTS};
 use crate::inputs::{file_of, sound_claims, sound_study, STUDY_WINDOW};
 use crate::one_input::{
     compare_add, compare_file_study, compare_listing, compare_open, compare_read_block, compare_write_block, had_often, same, Answer,
-    BENEFIT, CELL, DATE, FULL, LONG_LIST, RATE, RATE_TABLE, SEQUENCE, SHORT_ELIMINATION, STATUS, WINDOW,
+    BENEFIT, DATE, FULL, LONG_LIST, SEQUENCE, SHORT_ELIMINATION, STATUS, WINDOW,
 };
 use crate::{test, Outcome, Test};
 use second::block::{claim_record, BLOCK_LENGTH, CLAIM_LENGTH, RECORDS_LENGTH};
-use second::calendar::Date;
-use second::claim::{Claim, CLOSED, MOST_BENEFIT};
+use second::claim::{Claim, MOST_BENEFIT};
 use second::generate::{claim_file, sound_claim, sound_rates, sound_window};
-use second::rates::CELL_LENGTH;
 use second::rng::Rng;
 use second::study::{MOST_CLAIMS, STUDY_LENGTH, SUMS_AT, WEIGHTED_AT};
 
@@ -93,66 +92,22 @@ fn listed_and_added(rng: &mut Rng) -> Outcome {
     Ok(n)
 }
 
-/// The faults that checks find, in the order of the checks.
-const FAULTS: [u8; 10] = [WINDOW, DATE, STATUS, SEQUENCE, BENEFIT, SHORT_ELIMINATION, RATE_TABLE, CELL, RATE, FULL];
-
 /// Some of the faults at once; the first one counts.
 fn check_order(rng: &mut Rng) -> Outcome {
     let (n, mut answers) = (60_000, [0; 256]);
     for _ in 0..n {
-        let one_in = rng.pick(&[2, 4, 8]);
-        let faults = FAULTS.map(|fault| rng.one_in(one_in).then_some(fault));
-        let has = |fault: u8| faults.contains(&Some(fault));
-        let mut claim = Claim { cell: 0, ..sound_claim(rng) };
-        while claim.status != CLOSED || claim.bcd.day_number().unwrap().0 < 20 {
-            claim = Claim { cell: 0, ..sound_claim(rng) };
-        }
-        let bcd = claim.bcd.day_number().unwrap();
-        let mut rates = sound_rates(rng, 2);
-        let (mut first, mut last) = if has(WINDOW) { (STUDY_WINDOW.1, STUDY_WINDOW.0) } else { STUDY_WINDOW };
-        if has(DATE) {
-            claim.maximum = Date::new(2001, 2, 29);
-        }
-        if has(STATUS) {
-            claim.code = rng.pick(&[0, 7, 255]);
-        }
-        if has(SEQUENCE) {
-            claim.termination = (bcd + -1).date();
-        }
-        if has(BENEFIT) {
-            claim.benefit = rng.range(MOST_BENEFIT as i64 + 1, 255) as u8;
-        }
-        if has(SHORT_ELIMINATION) {
-            claim.disability = (bcd + -rng.range(0, 14) as i32).date();
-        }
-        if has(RATE) {
-            rates[rng.below(CELL_LENGTH as u64) as usize] = 1_000_001;
-        }
-        if has(CELL) {
-            claim.cell = 2;
-        }
-        if has(RATE_TABLE) {
-            rates.pop();
-        }
-        let first_of = |checked: &[u8]| faults.iter().flatten().copied().find(|fault| checked.contains(fault)).unwrap_or(0);
-        let input = || format!("{claim} with the faults {faults:?}");
-
-        let (listed, _) = compare_listing(first, last, &claim, LONG_LIST)?;
-        same(listed.refusal(), first_of(&FAULTS[..6]), input)?;
+        let faulty = Faulty::new(rng);
+        let Faulty { claim, rates, .. } = &faulty;
+        let (first, last) = faulty.window();
+        let (listed, _) = compare_listing(first, last, claim, LONG_LIST)?;
+        same(listed.refusal(), faulty.first_of(&FAULTS[..6]), || faulty.to_string())?;
         answers[listed.refusal() as usize] += 1;
 
-        if has(WINDOW) {
-            (first, last) = (last, first);
-        }
-        let (_, mut study) = compare_open(first, last, STUDY_LENGTH)?;
-        if has(WINDOW) {
-            study.swap(0, 1);
-        }
-        study[2] = if has(FULL) { MOST_CLAIMS as i64 } else { 0 };
-        same(compare_add(&mut study, &claim_record(&claim), &rates)?, first_of(&FAULTS), input)?;
+        let mut study = faulty.study(if faulty.has(FULL) { MOST_CLAIMS } else { 0 });
+        same(compare_add(&mut study, &claim_record(claim), rates)?, faulty.first_of(&FAULTS), || faulty.to_string())?;
 
-        let numbers = compare_file_study(&claim_file(STUDY_WINDOW, &[claim], None), &rates)?;
-        same(numbers[0], first_of(&FAULTS[1..9]) as i64, input)?;
+        let numbers = compare_file_study(&claim_file(STUDY_WINDOW, &[*claim], None), rates)?;
+        same(numbers[0], faulty.first_of(&FAULTS[1..9]) as i64, || faulty.to_string())?;
     }
     had_often(&answers, &[0, WINDOW, DATE, STATUS, SEQUENCE, BENEFIT, SHORT_ELIMINATION])?;
     Ok(3 * n)

@@ -264,6 +264,9 @@ pub fn compare_open(first: Date, last: Date, length: usize) -> Result<(u8, Vec<i
     )
 }
 
+/// Adding a record to a study with rates, or withdrawing it, compared.
+pub type Move = fn(&mut [i64], &[u8], &[u32]) -> Result<u8, String>;
+
 /// Adds with both to a study of any numbers, which may be longer or shorter than asked for and has the first one's numbers afterwards.
 pub fn compare_add(study: &mut [i64], record: &[u8], rates: &[u32]) -> Result<u8, String> {
     let (answer, added) = compare_lent(
