@@ -39,6 +39,11 @@ uint8_t ltd_open(uint32_t first, uint32_t last, int64_t *study, size_t study_len
    fewer than 32 bytes or one of its bytes 25 to 31 is not zero. */
 uint8_t ltd_add(int64_t *study, size_t study_len, const uint8_t *claim, size_t claim_len, const uint32_t *rates, size_t rates_len);
 
+/* Withdraws a claim that was added before, the 32 bytes of its record, from a study. Answers 0 or the number refused, study untouched: as
+   ltd_add, save that exactly 500,000 claims may be taken; then 18 if no claim is taken, or if a closing count or a weighted closing sum
+   would fall below zero. 255, study untouched, as ltd_add. */
+uint8_t ltd_withdraw(int64_t *study, size_t study_len, const uint8_t *claim, size_t claim_len, const uint32_t *rates, size_t rates_len);
+
 /* The dates of block 0's window into dates (2 numbers). Answers 0 or 11, dates untouched. 255 if dates is shorter than 2. */
 uint8_t ltd_read_window(const uint8_t *block, size_t block_len, uint32_t *dates, size_t dates_len);
 

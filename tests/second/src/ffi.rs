@@ -12,6 +12,15 @@ mod c {
 
         pub fn ltd_add(study: *mut i64, study_len: usize, claim: *const u8, claim_len: usize, rates: *const u32, rates_len: usize) -> u8;
 
+        pub fn ltd_withdraw(
+            study: *mut i64,
+            study_len: usize,
+            claim: *const u8,
+            claim_len: usize,
+            rates: *const u32,
+            rates_len: usize,
+        ) -> u8;
+
         pub fn ltd_read_window(block: *const u8, block_len: usize, dates: *mut u32, dates_len: usize) -> u8;
 
         pub fn ltd_listing(first: u32, last: u32, claim: *const u8, claim_len: usize, list: *mut i32, list_len: usize) -> u64;
@@ -99,6 +108,11 @@ pub fn open(first: u32, last: u32, study: &mut [i64]) -> u8 {
 /// A claim's record added to `study` (83 numbers).
 pub fn add(study: &mut [i64], claim: &[u8], rates: &[u32]) -> u8 {
     unsafe { c::ltd_add(head_mut(study), study.len(), head(claim), claim.len(), head(rates), rates.len()) }
+}
+
+/// A claim's record withdrawn from `study` (83 numbers).
+pub fn withdraw(study: &mut [i64], claim: &[u8], rates: &[u32]) -> u8 {
+    unsafe { c::ltd_withdraw(head_mut(study), study.len(), head(claim), claim.len(), head(rates), rates.len()) }
 }
 
 /// The dates of block 0's window into `dates` (2 numbers).

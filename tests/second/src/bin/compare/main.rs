@@ -23,6 +23,7 @@ mod studies;
 mod valuation;
 mod wanted_count;
 mod windows;
+mod withdraw;
 
 use second::rng::Rng;
 use std::env::args;
@@ -61,6 +62,7 @@ const SUBJECTS: &[&[Test]] = &[
     blocks::TESTS,
     short_lists::TESTS,
     open_and_add::TESTS,
+    withdraw::TESTS,
 ];
 
 fn main() {

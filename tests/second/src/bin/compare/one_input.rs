@@ -31,6 +31,7 @@ pub const VALUATION: u8 = 12;
 pub const DISCOUNT: u8 = 13;
 pub const BENEFIT: u8 = 16;
 pub const OPEN_CLAIMS: u8 = 17;
+pub const NOT_TAKEN: u8 = 18;
 pub const NO_SUCH_COUNT: u8 = 19;
 /// A lent list has not the length or form asked for.
 pub const WRONG_FORM: u8 = 255;
@@ -269,25 +270,39 @@ pub type Move = fn(&mut [i64], &[u8], &[u32]) -> Result<u8, String>;
 
 /// Adds with both to a study of any numbers, which may be longer or shorter than asked for and has the first one's numbers afterwards.
 pub fn compare_add(study: &mut [i64], record: &[u8], rates: &[u32]) -> Result<u8, String> {
-    let (answer, added) = compare_lent(
-        study,
-        |study| ffi::add(study, record, rates),
-        |study| second_add(study, record, rates),
-        EACH,
-        || format!("study {study:?}\n{}rates {}", described(record), list(rates)),
-    )?;
-    study.copy_from_slice(&added);
-    Ok(answer)
+    compare_move("added to", study, record, rates, ffi::add, |study, claim, rates| study.add(claim, rates))
 }
 
-fn second_add(study: &mut [i64], record: &[u8], rates: &[u32]) -> u8 {
-    let Some(numbers) = study.first_chunk_mut::<STUDY_LENGTH>() else { return WRONG_FORM };
-    let (Some(mut sum), Some(claim)) = (Study::of_numbers(numbers), read_claim(record)) else { return WRONG_FORM };
-    let added = sum.add(&claim, &RateTable::new(rates));
-    if added.is_ok() {
-        *numbers = sum.numbers();
-    }
-    answer(&added)
+/// Withdraws with both, as `compare_add` adds.
+pub fn compare_withdraw(study: &mut [i64], record: &[u8], rates: &[u32]) -> Result<u8, String> {
+    compare_move("withdrawn from", study, record, rates, ffi::withdraw, |study, claim, rates| study.withdraw(claim, rates))
+}
+
+fn compare_move(
+    what: &str,
+    study: &mut [i64],
+    record: &[u8],
+    rates: &[u32],
+    first: fn(&mut [i64], &[u8], &[u32]) -> u8,
+    second: fn(&mut Study, &Claim, &RateTable) -> Result<(), Refusal>,
+) -> Result<u8, String> {
+    let (answer, moved) = compare_lent(
+        study,
+        |study| first(study, record, rates),
+        |study| {
+            let Some(numbers) = study.first_chunk_mut::<STUDY_LENGTH>() else { return WRONG_FORM };
+            let (Some(mut sum), Some(claim)) = (Study::of_numbers(numbers), read_claim(record)) else { return WRONG_FORM };
+            let moved = second(&mut sum, &claim, &RateTable::new(rates));
+            if moved.is_ok() {
+                *numbers = sum.numbers();
+            }
+            answer(&moved)
+        },
+        EACH,
+        || format!("{what} the study {study:?}\n{}rates {}", described(record), list(rates)),
+    )?;
+    study.copy_from_slice(&moved);
+    Ok(answer)
 }
 
 /// Reads block 0 with both into a list of `length` numbers; the answer and the first one's list.

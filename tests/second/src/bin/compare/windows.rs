@@ -16,7 +16,7 @@ pub const TESTS: &[Test] = &[
 ];
 
 /// The parts that some cuts make of a window.
-fn parts(rng: &mut Rng, (first, last): (Date, Date), cuts: u64) -> Vec<(Date, Date)> {
+pub fn parts(rng: &mut Rng, (first, last): (Date, Date), cuts: u64) -> Vec<(Date, Date)> {
     let (first, last) = (first.day_number().unwrap().0, last.day_number().unwrap().0);
     let mut starts: Vec<i32> = (0..cuts).map(|_| rng.range(first as i64, last as i64) as i32).collect();
     starts.extend([first, last + 1]);
