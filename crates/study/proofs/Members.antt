@@ -3,7 +3,7 @@
 use Prim.Native.Nat.{ℕ, suc, _+_, _≤_, _<_}
 use mathlib.Core.Path.{_≡_, refl, sym, ap, _∙_, subst}
 use mathlib.Core.Bool.{true, and-eq-true-iff}
-use mathlib.Core.List.{List, [], _∷_}
+use mathlib.Core.List.{List, [], _∷_, _++_}
 use lib.ListN.{length}
 use lib.Dec.{eqb}
 use borrow.Author.Tests.{eqb-true, eq-eqb}
@@ -13,7 +13,8 @@ use Rattle.calendar.specs.declared.Date.{Date}
 use Rattle.claim_months.specs.declared.Claim.{Claim}
 use Rattle.study.specs.Study.{sumOver}
 use Rattle.study.specs.Moves.{sameDate, sameClaim, timesIn, without}
-use Rattle.study.proofs.SumOver.{All, SameSums}
+use Rattle.study.specs.Joining.{SameClaims}
+use Rattle.study.proofs.SumOver.{All, AnyCount, counts, swap-front, SameSums}
 
 -- `sameClaim` decides whether two claims are one
 same-date : (a b : Date) → sameDate a b ≡ true → a ≡ b
@@ -57,9 +58,38 @@ to-front c (x ∷ xs) h A add z Good laws f good =
     by (sameClaim x c) (λ y. 0 < pick y 1 0 + timesIn c xs → add (f x) (sum xs) ≡ add (f c) (sum (pick y xs (x ∷ without c xs))))
     (λ q u. ap (λ (e : Claim). add (f e) (sum xs)) (same-claim x c q))
     (λ q u.
-    ap (add (f x)) (to-front c xs (omega tests) A add z Good laws f good) ∙ sym (laws .assoc (f x) (f c) (sum (without c xs)))
-    ∙ ap (λ (e : A). add e (sum (without c xs))) (laws .comm (f x) (f c)) ∙ laws .assoc (f c) (f x) (sum (without c xs)))
+    ap (add (f x)) (to-front c xs (omega tests) A add z Good laws f good) ∙ swap-front add z Good laws (f x) (f c) (sum (without c xs)))
     h
+
+pub front : (xs : List Claim) (c : Claim) (ys : List Claim) → SameSums (xs ++ (c ∷ ys)) (c ∷ (xs ++ ys))
+unfolding sumOver
+front [] c ys A add z Good laws f good = refl
+front (x ∷ xs) c ys A add z Good laws f good =
+    ap (add (f x)) (front xs c ys A add z Good laws f good) ∙ swap-front add z Good laws (f x) (f c) (sumOver add z f (xs ++ ys))
+
+-- lists with the same claims, up to order, have the same sums: how often a claim stands in a list is itself a sum
+times-sum : (d : Claim) (cs : List Claim) → timesIn d cs ≡ sumOver _+_ 0 (λ x. pick (sameClaim x d) 1 0) cs
+unfolding timesIn sumOver
+times-sum d [] = refl
+times-sum d (x ∷ xs) = ap (λ (n : ℕ). pick (sameClaim x d) 1 0 + n) (times-sum d xs)
+
+times-same : (d : Claim) (cs ds : List Claim) → SameSums cs ds → timesIn d cs ≡ timesIn d ds
+times-same d cs ds same = times-sum d cs ∙ same ℕ _+_ 0 AnyCount counts (λ x. pick (sameClaim x d) 1 0) (λ x. tt) ∙ sym (times-sum d ds)
+
+times-first : (c : Claim) (cs : List Claim) → timesIn c (c ∷ cs) ≡ 1 + timesIn c cs
+unfolding timesIn
+times-first c cs = rw (claim-self c)
+
+pub same-sums : (cs ds : List Claim) → SameClaims cs ds → SameSums cs ds
+unfolding timesIn sumOver
+same-sums [] [] same A add z Good laws f good = refl
+same-sums [] (d ∷ ds) same A add z Good laws f good = let t = times-first d ds in let s = same d in absurd (omega tests)
+same-sums (c ∷ cs) ds same A add z Good laws f good =
+    let here = times-first c cs in
+    let all = same c in
+    let fore = to-front c ds (omega tests) in
+    let rest : SameClaims cs (without c ds) = λ d. let s = same d in let t = times-same d ds (c ∷ without c ds) fore in omega tests in
+    ap (add (f c)) (same-sums cs (without c ds) rest A add z Good laws f good) ∙ sym (fore A add z Good laws f good)
 
 -- what holds of every claim of a list holds of one that is among it, and of those that remain without it
 pub all-in : (P : Claim → Type 0) (c : Claim) (cs : List Claim) → All P cs → 0 < timesIn c cs → P c
@@ -81,3 +111,7 @@ length-without c [] = omega tests
 length-without c (x ∷ xs) =
     let h = length-without c xs in
     by (sameClaim x c) (λ y. length (pick y xs (x ∷ without c xs)) ≤ suc (length xs)) (λ q. omega tests) (λ q. omega tests)
+
+pub all-append : (P : Claim → Type 0) (xs ys : List Claim) → All P xs → All P ys → All P (xs ++ ys)
+all-append P [] ys a b = b
+all-append P (x ∷ xs) ys a b = (a .0, all-append P xs ys (a .1) b)

@@ -53,6 +53,9 @@ module _ {A : Type 0} (add : A → A → A) (zero-sum : A) (Good : A → Type 0)
       ∙ ap (add a) (sym (laws .assoc b c d) ∙ ap (λ (x : A). add x d) (laws .comm b c) ∙ laws .assoc c b d)
       ∙ sym (laws .assoc a c (add b d))
 
+  pub swap-front : (a b c : A) → add a (add b c) ≡ add b (add a c)
+  swap-front a b c = sym (laws .assoc a b c) ∙ ap (λ (x : A). add x c) (laws .comm a b) ∙ laws .assoc b a c
+
   -- the sum of f over the places below n, and over the places of an order
   sumBelow : (ℕ → A) → ℕ → A
   sumBelow f zero = zero-sum
@@ -136,9 +139,7 @@ module _ {A : Type 0} (add : A → A → A) (zero-sum : A) (Good : A → Type 0)
   unfolding sumBelow
   below-front f zero = refl
   below-front f (suc n) =
-      ap (add (f (suc n))) (below-front f n) ∙ sym (laws .assoc (f (suc n)) (f 0) (sumBelow (λ i. f (suc i)) n))
-      ∙ ap (λ (x : A). add x (sumBelow (λ i. f (suc i)) n)) (laws .comm (f (suc n)) (f 0))
-      ∙ laws .assoc (f 0) (f (suc n)) (sumBelow (λ i. f (suc i)) n)
+      ap (add (f (suc n))) (below-front f n) ∙ swap-front (f (suc n)) (f 0) (sumBelow (λ i. f (suc i)) n)
 
   -- what a claim adds: nothing where it isn't accepted
   abbrev pub ownShare : List ℕ → (Claim → A) → Claim → A

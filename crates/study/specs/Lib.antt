@@ -7,4 +7,5 @@ pub mod DefinitionChange
 pub mod Demand3
 pub mod Withdrawing
 pub mod Moves
+pub mod Joining
 pub mod Private
