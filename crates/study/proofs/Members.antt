@@ -14,7 +14,7 @@ use Rattle.claim_months.specs.declared.Claim.{Claim}
 use Rattle.study.specs.Study.{sumOver}
 use Rattle.study.specs.Moves.{sameDate, sameClaim, timesIn, without}
 use Rattle.study.specs.Joining.{SameClaims}
-use Rattle.study.proofs.SumOver.{All, AnyCount, counts, swap-front, SameSums}
+use Rattle.study.proofs.SumOver.{All, AnyCount, counts, swap-front, sum-append, SameSums}
 
 -- `sameClaim` decides whether two claims are one
 same-date : (a b : Date) → sameDate a b ≡ true → a ≡ b
@@ -66,6 +66,11 @@ unfolding sumOver
 front [] c ys A add z Good laws f good = refl
 front (x ∷ xs) c ys A add z Good laws f good =
     ap (add (f x)) (front xs c ys A add z Good laws f good) ∙ swap-front add z Good laws (f x) (f c) (sumOver add z f (xs ++ ys))
+
+-- one list after another may stand before it
+pub other-order : (xs ys : List Claim) → SameSums (xs ++ ys) (ys ++ xs)
+other-order xs ys A add z Good laws f good =
+    sum-append add z Good laws [] f good xs ys ∙ laws .comm (sumOver add z f xs) (sumOver add z f ys) ∙ sym (sum-append add z Good laws [] f good ys xs)
 
 -- lists with the same claims, up to order, have the same sums: how often a claim stands in a list is itself a sum
 times-sum : (d : Claim) (cs : List Claim) → timesIn d cs ≡ sumOver _+_ 0 (λ x. pick (sameClaim x d) 1 0) cs

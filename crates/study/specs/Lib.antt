@@ -8,4 +8,5 @@ pub mod Demand3
 pub mod Withdrawing
 pub mod Moves
 pub mod Joining
+pub mod PoolTrees
 pub mod Private
