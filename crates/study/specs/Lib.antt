@@ -9,4 +9,5 @@ pub mod Withdrawing
 pub mod Moves
 pub mod Joining
 pub mod PoolTrees
+pub mod PoolOrders
 pub mod Private
