@@ -16,7 +16,7 @@ use calendar::MaybeDay;
 use calendar::MaybeMonth;
 
 // Check 1, of a window as two day numbers.
-pub(crate) fn is_sound(window: Window) -> bool
+pub fn is_sound(window: Window) -> bool
     ensures { λ r. ⌜ r ≡ windowSound (window .first .0) (window .last .0) ⌝ }
 {
     if window.first.0 > calendar::LAST_DAY {

@@ -1,17 +1,18 @@
--- Sums within bounds, as one test and as facts of their four lists, and what is added to sums within and past the bounds of refusal 9.
+-- Sums within bounds, as one test, list by list and as facts of their four lists, and what is added to sums within and past the bounds of refusal 9.
 -- Assumes nothing.
-use Prim.Native.Nat.{ℕ, _+_, _*_, _≤_, _<_}
+use Prim.Native.Nat.{ℕ, zero-le, _+_, _*_, _≤_, _<_}
 use mathlib.Core.Path.{_≡_, refl, sym, ap, _∙_}
 use mathlib.Core.Bool.{Bool, true, false, _&&_}
 use mathlib.Core.List.{List}
 use lib.Dec.{leb}
-use lib.IntN.{ℤ, pos, natAbs, _+ℤ_, +ℤ-idr}
+use lib.IntN.{ℤ, pos, natAbs, _+ℤ_, _-ℤ_, +ℤ-idr}
 use borrow.Author.Tests.{le-leb, lt-leb, leb-true}
 use Rattle.basics.specs.Tables.{allWithin, allAtMost}
 use Rattle.basics.proofs.Tests.{tests, and-left, and-right, pick-is}
+use Rattle.basics.proofs.Integers.{sub-is, size-sub}
 use Rattle.basics.proofs.Tables.{within-list, within-at, at-most-list, at-most-at}
 use Rattle.study.specs.declared.Sums.{Sums}
-use Rattle.study.specs.PreparedAdding.{guardedSum, guardedCount}
+use Rattle.study.specs.PreparedAdding.{lentSums, guardedSum, guardedCount}
 use Rattle.study.specs.Private.{bounded}
 
 pub record InBounds (exposure expected count : ℕ) (s : Sums) : Type 0 where
@@ -53,6 +54,33 @@ module _ (t e n : ℕ) (s : Sums) where
         deaths = wider e e′ (s .deaths) q (b .deaths);
         closings = at-most-list n′ (s .closings) (λ k _. let h = at-most-at n (s .closings) k (b .closings) in omega tests);
       }
+
+-- the bounds, list by list: the first that fails settles it, and the counts decide where the others pass
+module _ (t e n : ℕ) (ts : List ℤ) (cs : List ℕ) (rs ds : List ℤ) where
+  abbrev all : Bool
+  all = bounded t e n (lentSums ts cs rs ds)
+
+  pub thirtieths-beyond : allWithin t ts ≡ false → false ≡ all
+  unfolding bounded
+  thirtieths-beyond h = rw h refl
+
+  module _ (a : allWithin t ts ≡ true) where
+    pub recoveries-beyond : allWithin e rs ≡ false → false ≡ all
+    unfolding bounded
+    recoveries-beyond h = rw (a, h) refl
+
+    module _ (b : allWithin e rs ≡ true) where
+      pub deaths-beyond : allWithin e ds ≡ false → false ≡ all
+      unfolding bounded
+      deaths-beyond h = rw (a, b, h) refl
+
+      pub counts-decide : allWithin e ds ≡ true → allAtMost n cs ≡ all
+      unfolding bounded
+      counts-decide h = rw (a, b, h) refl
+
+-- the size of −n, as the code has it
+pub opposite-size : (n : ℕ) → natAbs (pos 0 -ℤ pos n) ≤ n
+opposite-size n = rw (← sub-is 0 n) (size-sub 0 n n zero-le (omega tests))
 
 -- an amount added to a sum that a test finds within m times the bound, and to one past it; nothing added; the same of a count
 module _ (m : ℕ) (x y : ℤ) (b : ℕ) (r : Bool) (t : r ≡ leb (natAbs x) b) (e : b ≡ 27000000000000000 * m) where

@@ -3,7 +3,7 @@
 -- for claims. `Capacity`: check 9 never fires under 500,000 claims. `LentSums`: adding told that there is room. `Built`: a run's study is that of its
 -- accepted claims. `Totals`: studies over parts total. `DefinitionChanges`: code 6 counts as a recovery. `Demand3`: the theorem. `Weights`: claims that
 -- weigh one each. `Members`: the claims of a list. `TakenBack`: claims withdrawn. `Covering`, `OwnShare`, `Withdrawals`: what a withdrawal's code computes.
--- `Pooling`: two studies joined. `Groupings`: pools in any tree. `PoolOrders`: in any order.
+-- `Joins`: what a join tests and adds. `Pooling`: two studies joined. `Groupings`: pools in any tree. `PoolOrders`: in any order.
 pub mod Algebra
 pub mod SumOver
 mod Places
@@ -27,5 +27,6 @@ mod Covering
 mod OwnShare
 mod Withdrawals
 pub mod Pooling
+mod Joins
 pub mod Groupings
 pub mod PoolOrders

@@ -9,6 +9,7 @@ ghost use Rattle.study.specs.PreparedAdding.{lentSums, lentStudy, lentSh
 ghost use Rattle.study.specs.Private.{spanNumber, spanSums, spanWeightedSums};
 
 mod group_figures;
+mod joining;
 pub mod room;
 mod share;
 mod sums_algebra;

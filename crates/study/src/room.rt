@@ -48,7 +48,7 @@ fn all_at_most(counts: &[u32], bound: u32) -> bool
 }
 
 // Whether sums are within bounds: one for thirtieths, one for expected sums, one for counts.
-fn are_bounded(
+pub(crate) fn are_bounded(
     exposure: u64,
     expected: u64,
     count: u32,

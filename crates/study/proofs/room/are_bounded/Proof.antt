@@ -1,41 +1,14 @@
 -- `study::room::are_bounded` meets its contract: each test decides one list.
 -- Assumes nothing.
-use Prim.Native.Nat.{ℕ}
-use mathlib.Core.Path.{_≡_, refl, sym, _∙_}
-use mathlib.Core.Bool.{Bool, true, false}
-use mathlib.Core.List.{List}
+use mathlib.Core.Path.{_≡_, sym, _∙_}
+use mathlib.Core.Bool.{true}
 use native.Mathlib.Omega.{arith}
 use borrow.Author.Needs.{needs}
 use borrow.Author.Tests.{not-true, not-false}
-use lib.IntN.{ℤ}
-use Rattle.basics.specs.Tables.{allWithin, allAtMost}
-use Rattle.study.specs.PreparedAdding.{lentSums}
-use Rattle.study.specs.Private.{bounded}
+use Rattle.basics.specs.Tables.{allWithin}
+use Rattle.study.proofs.Bounds.{thirtieths-beyond, recoveries-beyond, deaths-beyond, counts-decide}
 use Rattle.study.proofs.room.are_bounded.Statement.{statement}
 use Rattle.study.proofs.room.are_bounded.Tie as tie
-
--- the bounds, list by list
-module _ (t e n : ℕ) (ts : List ℤ) (cs : List ℕ) (rs ds : List ℤ) where
-  abbrev all : Bool
-  all = bounded t e n (lentSums ts cs rs ds)
-
-  thirtieths-beyond : allWithin t ts ≡ false → false ≡ all
-  unfolding bounded
-  thirtieths-beyond h = rw h refl
-
-  module _ (a : allWithin t ts ≡ true) where
-    recoveries-beyond : allWithin e rs ≡ false → false ≡ all
-    unfolding bounded
-    recoveries-beyond h = rw (a, h) refl
-
-    module _ (b : allWithin e rs ≡ true) where
-      deaths-beyond : allWithin e ds ≡ false → false ≡ all
-      unfolding bounded
-      deaths-beyond h = rw (a, b, h) refl
-
-      counts-decide : allWithin e ds ≡ true → allAtMost n cs ≡ all
-      unfolding bounded
-      counts-decide h = rw (a, b, h) refl
 
 returns : tie.Need-returns
 returns c = thirtieths-beyond _ _ _ _ _ _ _ (sym (c .before .all-within .ensures) ∙ not-true _ (c .if1 .taken))

@@ -1,6 +1,6 @@
 -- `study::room::is_within` meets its contract: a number is not below −bound and not above bound.
 -- Assumes nothing.
-use Prim.Native.Nat.{ℕ, zero, suc, zero-le, _≤_}
+use Prim.Native.Nat.{ℕ, zero, suc}
 use mathlib.Core.Path.{_≡_, refl, sym, _∙_}
 use mathlib.Core.Bool.{true, false, true≢false}
 use native.Mathlib.Omega.{arith}
@@ -12,8 +12,8 @@ use mir.Syntax.{w64}
 use mir.Val.{toZ, ofZ}
 use mir.Facts.{toZ-ofZ}
 use Rattle.basics.proofs.Tests.{tests}
-use Rattle.basics.proofs.Integers.{sub-is, size-sub}
 use Rattle.basics.proofs.Signed.{Small, read-back, result-fits, result-is}
+use Rattle.study.proofs.Bounds.{opposite-size}
 use Rattle.study.proofs.room.is_within.Statement.{statement}
 use Rattle.study.proofs.room.is_within.Tie as tie
 
@@ -28,10 +28,7 @@ not-below (pos n) b h = refl
 not-below (negsuc n) zero h = absurd (true≢false h)
 not-below (negsuc n) (suc b) h = sym (le-leb (suc n) (suc b) (omega tests))
 
--- −bound and bound as the code has them
-opposite-size : (b : ℕ) → natAbs (pos 0 -ℤ pos b) ≤ b
-opposite-size b = rw (← sub-is 0 b) (size-sub 0 b b zero-le (omega tests))
-
+-- −bound as the code has it
 module _ (c : tie.Start) where
   abbrev bound : ℕ
   bound = c .args .bound
