@@ -1,4 +1,4 @@
--- The calls on a study that is a lent list of numbers: ltd_open, ltd_add and ltd_withdraw.
+-- The calls on a study that is a lent list of numbers: ltd_open, ltd_add, ltd_withdraw and ltd_join.
 use Prim.Native.Nat.{ℕ, zero, suc, _+_, _*_, _/_, _%_}
 use mathlib.Core.Bool.{Bool, true, false, _&&_}
 use mathlib.Core.List.{List}
@@ -12,6 +12,7 @@ use Rattle.claim_months.specs.declared.Claim.{Claim}
 use Rattle.study.specs.declared.Study.{Study}
 use Rattle.study.specs.declared.Sums.{Sums}
 use Rattle.study.specs.declared.Answer.{Answer}
+use Rattle.study.specs.Joining.{joined}
 use Rattle.claim_file.specs.declared.MaybeClaim.{MaybeClaim}
 use Rattle.claim_file.specs.declared.MaybeClaim.the-variants.{Found, NoRecord}
 use Rattle.claim_file.specs.BlockAnswers.{recordIn}
@@ -72,3 +73,10 @@ claimAnswer take xs claim rates = pick (studyForm xs) (takenFrom take (studyIn x
 unfoldable pub claimAfter : Taking → List ℤ → List ℕ → List ℕ → List ℤ
 claimAfter take xs claim rates =
     pick (eqb (claimAnswer take xs claim rates) 0) (sets xs 0 (studyNumbers (takenFrom take (studyIn xs) (recordIn claim 0) rates .study))) xs
+
+-- ltd_join: 255 for a list that has not the form of a study; the first list afterwards, untouched by any refusal
+unfoldable pub joinAnswer : List ℤ → List ℤ → ℕ
+joinAnswer xs ys = pick (studyForm xs && studyForm ys) (joined (studyIn xs) (studyIn ys) .refused) 255
+
+unfoldable pub joinAfter : List ℤ → List ℤ → List ℤ
+joinAfter xs ys = pick (eqb (joinAnswer xs ys) 0) (sets xs 0 (studyNumbers (joined (studyIn xs) (studyIn ys) .study))) xs

@@ -1,4 +1,4 @@
-// The calls that open a study, add a claim to it and withdraw one. A study is a lent list of 83 numbers, a claim the record of a claim file.
+// The calls that open a study, add a claim to it, withdraw one, and join two studies. A study is a lent list of 83 numbers, a claim the record of a claim file.
 ghost use mathlib.Core.Path.{_≡_};
 ghost use mathlib.Core.Bool.{true};
 ghost use Prim.Native.Nat.{_+_, _*_, _≤_};
@@ -12,7 +12,7 @@ ghost use Rattle.study.specs.Study.{opened, added};
 ghost use Rattle.study_list.specs.Lent.{answered, stored};
 ghost use Rattle.study_list.specs.StudyList.{studyNumbers};
 ghost use Rattle.c_abi.specs.Abi.{dateIn};
-ghost use Rattle.c_abi.specs.StudyCalls.{isWord, closingAt, countsAreWords, studyForm, sumsIn, studyIn, claimAnswer, claimAfter};
+ghost use Rattle.c_abi.specs.StudyCalls.{isWord, closingAt, countsAreWords, studyForm, sumsIn, studyIn, claimAnswer, claimAfter, joinAnswer, joinAfter};
 use crate::listing::date_in;
 use calendar::Day;
 use claim_file::MaybeClaim;
@@ -206,11 +206,32 @@ pub extern "C" fn ltd_withdraw(study: &mut [i64], claim: &[u8], rates: &[u32]) -
     let MaybeClaim::Found(read) = claim_file::record::read_record(claim, 0) else {
         return 255;
     };
-    let answer = study_in(study).withdraw(read, rates);
-    if answer.refused != 0 {
-        return answer.refused;
+    let left = study_in(study).withdraw(read, rates);
+    if left.refused != 0 {
+        return left.refused;
     }
-    let after = answer.study;
+    let after = left.study;
+    put_study(after, 0, study);
+    0
+}
+
+// Joins a study into another.
+#[no_mangle]
+pub extern "C" fn ltd_join(study: &mut [i64], other: &[i64]) -> u8
+    ensures { λ r. ⌜ r ≡ joinAnswer (now (study .entry)) (now (other .entry)) ⌝ }
+    ensures { λ _. ⌜ now (study .exit) ≡ joinAfter (now (study .entry)) (now (other .entry)) ⌝ }
+{
+    if !is_study(study) {
+        return 255;
+    }
+    if !is_study(other) {
+        return 255;
+    }
+    let pool = study_in(study).join(study_in(other));
+    if pool.refused != 0 {
+        return pool.refused;
+    }
+    let after = pool.study;
     put_study(after, 0, study);
     0
 }
