@@ -38,6 +38,7 @@ pub enum Refusal {
     Block = 11,
     Valuation = 12,
     Discount = 13,
+    OtherWindow = 15,
     Benefit = 16,
     OpenClaims = 17,
     NotTaken = 18,

@@ -1,4 +1,5 @@
-//! Study: its sums by duration group, by count and weighted by benefit, opening, and the adding and withdrawing of claims.
+//! Study: its sums by duration group, by count and weighted by benefit, opening, the adding and withdrawing of
+//! claims, and the joining of studies.
 
 use crate::calendar::{Date, Day};
 use crate::claim::{CheckedClaim, Claim, Duration, MOST_BENEFIT};
@@ -51,6 +52,20 @@ impl GroupSums {
         }
         self.expected_recoveries += other.expected_recoveries;
         self.expected_deaths += other.expected_deaths;
+    }
+
+    /// None if a sum would not fit its field.
+    fn plus(&self, other: &GroupSums) -> Option<GroupSums> {
+        let mut closings = self.closings;
+        for (count, more) in closings.iter_mut().zip(other.closings) {
+            *count = count.checked_add(more)?;
+        }
+        Some(GroupSums {
+            thirtieths: self.thirtieths.checked_add(other.thirtieths)?,
+            closings,
+            expected_recoveries: self.expected_recoveries.checked_add(other.expected_recoveries)?,
+            expected_deaths: self.expected_deaths.checked_add(other.expected_deaths)?,
+        })
     }
 
     /// None if a closing count or sum would fall below zero.
@@ -175,6 +190,34 @@ impl Study {
             *group = group.minus(&share.times(claim.weight))?;
         }
         Some(left)
+    }
+
+    /// Pools another study of the same window into this one. Check 1 of either; 15: unequal windows; 9 of either, save that 500,000 claims
+    /// may be taken, and of both together. A refusal leaves the study as it was.
+    pub fn join(&mut self, other: &Study) -> Result<(), Refusal> {
+        self.window.check()?;
+        other.window.check()?;
+        if self.window != other.window {
+            return Err(Refusal::OtherWindow);
+        }
+        self.check_room(MOST_CLAIMS)?;
+        other.check_room(MOST_CLAIMS)?;
+        let joined = self.with(other).ok_or(Refusal::Full)?;
+        joined.check_room(MOST_CLAIMS)?;
+        *self = joined;
+        Ok(())
+    }
+
+    /// None if a number would not fit its field.
+    fn with(&self, other: &Study) -> Option<Study> {
+        let mut joined = Study { claims_taken: self.claims_taken.checked_add(other.claims_taken)?, ..*self };
+        for (group, more) in joined.groups.iter_mut().zip(&other.groups) {
+            *group = group.plus(more)?;
+        }
+        for (group, more) in joined.weighted.iter_mut().zip(&other.weighted) {
+            *group = group.plus(more)?;
+        }
+        Some(joined)
     }
 
     /// Checks 1 to 8 and 16.

@@ -388,6 +388,115 @@ fn a_withdrawal_may_take_a_sum_past_its_bounds() {
     assert_eq!(withdrawn(&left, &claim, &rates), Err(9));
 }
 
+// No. 3: pooling affiliates.
+
+/// Joins, and holds a refusal to leaving the study as it was.
+fn joined(study: &Study, other: &Study) -> Result<Study, u8> {
+    let mut after = *study;
+    match after.join(other) {
+        Ok(()) => Ok(after),
+        Err(refusal) => {
+            assert_eq!(after, *study);
+            Err(refusal.number())
+        }
+    }
+}
+
+/// In a window and in its parts: the joined study is that of both lists, and the parts' studies, joined likewise, total the whole's.
+#[test]
+fn the_joined_study_is_that_of_both_lists() {
+    let mut rng = Rng::new(107);
+    for _ in 0..200 {
+        let rates = sound_rates(&mut rng, 4);
+        let claims: Vec<Claim> = (0..rng.range(1, 30)).map(|_| sound_claim(&mut rng)).collect();
+        let (first, last) = sound_window(&mut rng, &claims[0]);
+        let (one, other) = claims.split_at(rng.below(claims.len() as u64 + 1) as usize);
+        let pooled = |window: (Date, Date)| {
+            let pooled = joined(&study_of(window, one, &rates), &study_of(window, other, &rates));
+            assert_eq!(pooled, Ok(study_of(window, &claims, &rates)));
+            pooled.unwrap().numbers()
+        };
+        let whole = pooled((first, last));
+        let [first, last] = [first, last].map(|date| date.day_number().unwrap());
+        let cut = Day(rng.range(first.0 as i64, last.0 as i64) as i32);
+        let mut parts = vec![pooled((first.date(), cut.date()))];
+        if cut < last {
+            parts.push(pooled(((cut + 1).date(), last.date())));
+        }
+        assert!(parts.iter().all(|part| part[2] == whole[2]));
+        for place in 3..whole.len() {
+            assert_eq!(whole[place], parts.iter().map(|part| part[place]).sum::<i64>());
+        }
+    }
+}
+
+#[test]
+fn joining_refuses_bad_windows_then_unequal_ones_then_sums() {
+    let study = Study::open(STUDY_WINDOW.0, STUDY_WINDOW.1).unwrap();
+    let window = study.window;
+    let full = Study { claims_taken: 500_001, ..study };
+    let with = |study: Study, first: i32, last: i32| Study { window: Window { first: Day(first), last: Day(last) }, ..study };
+    let (first, last) = (window.first.0, window.last.0);
+    assert_eq!(joined(&study, &study), Ok(study));
+    for (bad_first, bad_last) in [(last, first), (first, 54_787), (i32::MAX, i32::MAX)] {
+        let bad = with(full, bad_first, bad_last);
+        // Two equal bad windows, a bad one in either, and a fault of every kind.
+        assert_eq!([joined(&bad, &bad), joined(&bad, &study), joined(&study, &bad), joined(&full, &bad)], [Err(1); 4]);
+    }
+    for other in [with(full, first + 1, last), with(full, first, last - 1), with(study, 0, 0)] {
+        assert_eq!([joined(&study, &other), joined(&other, &study)], [Err(15); 2]);
+    }
+    assert_eq!([joined(&study, &full), joined(&full, &study), joined(&full, &full)], [Err(9); 3]);
+}
+
+#[test]
+fn joined_studies_stay_within_the_bounds() {
+    let study = Study::open(STUDY_WINDOW.0, STUDY_WINDOW.1).unwrap();
+    let taken = |claims_taken: u32| Study { claims_taken, ..study };
+    for (one, other, answer) in [
+        (500_000, 0, Ok(500_000)),
+        (0, 500_000, Ok(500_000)),
+        (250_000, 250_000, Ok(500_000)),
+        (250_000, 250_001, Err(9)),
+        (1, 500_000, Err(9)),
+        (500_001, 0, Err(9)),
+        (u32::MAX, 1, Err(9)),
+    ] {
+        assert_eq!(joined(&taken(one), &taken(other)).map(|joined| joined.claims_taken), answer);
+    }
+    // Every other place of the list, with the bound that it has.
+    let numbers = study.numbers();
+    for place in 3..numbers.len() {
+        let times = if place < 43 { 1 } else { 200 };
+        let (most, signed) = match (place - 3) % 8 {
+            0 => (times * 27_000_000_000, true),
+            1..=5 => (times * 500_000, false),
+            _ => (times * 27_000_000_000_000_000, true),
+        };
+        let at = |number: i64| {
+            let mut numbers = numbers;
+            numbers[place] = number;
+            Study::of_numbers(&numbers).unwrap()
+        };
+        let answer = |one: i64, other: i64| joined(&at(one), &at(other)).map(|joined| joined.numbers()[place]);
+        for side in if signed { &[1, -1][..] } else { &[1] } {
+            assert_eq!(answer(side * most, 0), Ok(side * most));
+            assert_eq!(answer(side * (most - 1), *side), Ok(side * most));
+            assert_eq!([answer(side * most, *side), answer(*side, side * most), answer(side * most, side * most)], [Err(9); 3]);
+            assert_eq!([answer(side * (most + 1), 0), answer(0, side * (most + 1))], [Err(9); 2]);
+        }
+        if signed {
+            assert_eq!(answer(most, -most), Ok(0));
+            // Beyond in one, though not together.
+            assert_eq!([answer(most + 1, -1), answer(-1, most + 1), answer(i64::MAX, i64::MIN)], [Err(9); 3]);
+            // In 64 bits these would be small.
+            assert_eq!([answer(i64::MIN, i64::MIN), answer(i64::MAX, i64::MAX)], [Err(9); 2]);
+        } else {
+            assert_eq!(answer(u32::MAX as i64, 1), Err(9));
+        }
+    }
+}
+
 // No. 9: the 1.30 limit judged on reserves.
 
 #[test]
