@@ -44,6 +44,12 @@ uint8_t ltd_add(int64_t *study, size_t study_len, const uint8_t *claim, size_t c
    would fall below zero. 255, study untouched, as ltd_add. */
 uint8_t ltd_withdraw(int64_t *study, size_t study_len, const uint8_t *claim, size_t claim_len, const uint32_t *rates, size_t rates_len);
 
+/* Joins another study of the same window to a study: claims taken and every sum of either set are added. Answers 0 or the number refused,
+   study untouched: 1 if the window of either is bad, 15 if the windows differ, 9 if together they have over 500,000 claims, or if a sum or
+   count is beyond its bounds in either or in both together. 255, study untouched, if either list is shorter than 83 or has days, claims
+   taken, a closing count or a weighted closing sum outside 0 to 2^32 - 1. */
+uint8_t ltd_join(int64_t *study, size_t study_len, const int64_t *other, size_t other_len);
+
 /* The dates of block 0's window into dates (2 numbers). Answers 0 or 11, dates untouched. 255 if dates is shorter than 2. */
 uint8_t ltd_read_window(const uint8_t *block, size_t block_len, uint32_t *dates, size_t dates_len);
 

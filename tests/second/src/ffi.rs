@@ -21,6 +21,8 @@ mod c {
             rates_len: usize,
         ) -> u8;
 
+        pub fn ltd_join(study: *mut i64, study_len: usize, other: *const i64, other_len: usize) -> u8;
+
         pub fn ltd_read_window(block: *const u8, block_len: usize, dates: *mut u32, dates_len: usize) -> u8;
 
         pub fn ltd_listing(first: u32, last: u32, claim: *const u8, claim_len: usize, list: *mut i32, list_len: usize) -> u64;
@@ -113,6 +115,11 @@ pub fn add(study: &mut [i64], claim: &[u8], rates: &[u32]) -> u8 {
 /// A claim's record withdrawn from `study` (83 numbers).
 pub fn withdraw(study: &mut [i64], claim: &[u8], rates: &[u32]) -> u8 {
     unsafe { c::ltd_withdraw(head_mut(study), study.len(), head(claim), claim.len(), head(rates), rates.len()) }
+}
+
+/// The study `other` joined to `study` (83 numbers each).
+pub fn join(study: &mut [i64], other: &[i64]) -> u8 {
+    unsafe { c::ltd_join(head_mut(study), study.len(), head(other), other.len()) }
 }
 
 /// The dates of block 0's window into `dates` (2 numbers).

@@ -12,6 +12,7 @@ mod faults;
 mod figures;
 mod file_runs;
 mod inputs;
+mod join;
 mod listing;
 mod month_walk;
 mod one_input;
@@ -63,6 +64,7 @@ const SUBJECTS: &[&[Test]] = &[
     short_lists::TESTS,
     open_and_add::TESTS,
     withdraw::TESTS,
+    join::TESTS,
 ];
 
 fn main() {

@@ -29,6 +29,7 @@ pub const SHORT_LIST: u8 = 10;
 pub const BLOCK: u8 = 11;
 pub const VALUATION: u8 = 12;
 pub const DISCOUNT: u8 = 13;
+pub const OTHER_WINDOW: u8 = 15;
 pub const BENEFIT: u8 = 16;
 pub const OPEN_CLAIMS: u8 = 17;
 pub const NOT_TAKEN: u8 = 18;
@@ -276,6 +277,32 @@ pub fn compare_add(study: &mut [i64], record: &[u8], rates: &[u32]) -> Result<u8
 /// Withdraws with both, as `compare_add` adds.
 pub fn compare_withdraw(study: &mut [i64], record: &[u8], rates: &[u32]) -> Result<u8, String> {
     compare_move("withdrawn from", study, record, rates, ffi::withdraw, |study, claim, rates| study.withdraw(claim, rates))
+}
+
+/// Joins `other` to a study with both; either may have any numbers, and be longer or shorter than asked for. The study has the first one's
+/// numbers afterwards, and `other` is never written.
+pub fn compare_join(study: &mut [i64], other: &[i64]) -> Result<u8, String> {
+    let input = || format!("joined to the study {study:?}\nthe study {other:?}");
+    let (answer, joined, after) = compare_two_lent(
+        (study, other),
+        |study, other| ffi::join(study, other),
+        |study, other| {
+            let (Some(numbers), Some(other)) = (study.first_chunk_mut::<STUDY_LENGTH>(), other.first_chunk::<STUDY_LENGTH>()) else {
+                return WRONG_FORM;
+            };
+            let (Some(mut sum), Some(other)) = (Study::of_numbers(numbers), Study::of_numbers(other)) else { return WRONG_FORM };
+            let joined = sum.join(&other);
+            if joined.is_ok() {
+                *numbers = sum.numbers();
+            }
+            answer(&joined)
+        },
+        EACH,
+        input,
+    )?;
+    same_list(&after, other, || format!("{}\nwas written", input()))?;
+    study.copy_from_slice(&joined);
+    Ok(answer)
 }
 
 fn compare_move(
