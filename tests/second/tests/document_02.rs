@@ -497,6 +497,77 @@ fn joined_studies_stay_within_the_bounds() {
     }
 }
 
+// No. 8: pools in any grouping.
+
+/// Joins any two neighbours until one study is left.
+fn pooled(rng: &mut Rng, mut studies: Vec<Study>) -> Study {
+    while studies.len() > 1 {
+        let at = rng.below(studies.len() as u64 - 1) as usize;
+        let other = studies.remove(at + 1);
+        studies[at].join(&other).unwrap();
+    }
+    studies[0]
+}
+
+/// So many copies of a study, by doubling.
+fn copies(study: &Study, count: u32) -> Study {
+    let mut pool = Study::open(study.window.first.date(), study.window.last.date()).unwrap();
+    for bit in (0..u32::BITS - count.leading_zeros()).rev() {
+        let half = pool;
+        pool.join(&half).unwrap();
+        if count >> bit & 1 == 1 {
+            pool.join(study).unwrap();
+        }
+    }
+    pool
+}
+
+#[test]
+fn order_and_grouping_of_pools_do_not_matter() {
+    let mut rng = Rng::new(108);
+    for _ in 0..150 {
+        let rates = sound_rates(&mut rng, 4);
+        let offices: Vec<Vec<Claim>> = (0..rng.range(1, 6)).map(|_| (0..rng.below(8)).map(|_| sound_claim(&mut rng)).collect()).collect();
+        let window = sound_window(&mut rng, &offices[0].first().copied().unwrap_or_default());
+        let whole = study_of(window, &offices.concat(), &rates);
+        for _ in 0..4 {
+            let mut studies: Vec<Study> = offices.iter().map(|claims| study_of(window, claims, &rates)).collect();
+            // Fresh studies are neutral.
+            studies.extend((0..rng.below(3)).map(|_| study_of(window, &[], &rates)));
+            rng.shuffle(&mut studies);
+            assert_eq!(pooled(&mut rng, studies), whole);
+        }
+    }
+}
+
+#[test]
+fn pools_of_500_000_claims_in_any_grouping() {
+    let mut rng = Rng::new(109);
+    for _ in 0..30 {
+        let rates = sound_rates(&mut rng, 4);
+        let claims: Vec<Claim> = (0..4).map(|_| sound_claim(&mut rng)).collect();
+        let window = sound_window(&mut rng, &claims[0]);
+        // 125,000 copies of each of four claims, as studies of any size.
+        let whole = copies(&study_of(window, &claims, &rates), 125_000);
+        assert_eq!(whole.claims_taken, 500_000);
+        let mut studies = Vec::new();
+        for claim in &claims {
+            let one = study_of(window, &[*claim], &rates);
+            let mut left = 125_000;
+            while left > 0 {
+                let some = rng.range(1, left as i64) as u32;
+                studies.push(copies(&one, some));
+                left -= some;
+            }
+        }
+        rng.shuffle(&mut studies);
+        let pool = pooled(&mut rng, studies);
+        assert_eq!(pool, whole);
+        assert_eq!(joined(&pool, &study_of(window, &[], &rates)), Ok(pool));
+        assert_eq!(joined(&pool, &study_of(window, &claims[..1], &rates)), Err(9));
+    }
+}
+
 // No. 9: the 1.30 limit judged on reserves.
 
 #[test]
