@@ -17,6 +17,7 @@ mod listing;
 mod month_walk;
 mod one_input;
 mod open_and_add;
+mod pools;
 mod prepared;
 mod reserve_limit;
 mod short_lists;
@@ -65,6 +66,7 @@ const SUBJECTS: &[&[Test]] = &[
     open_and_add::TESTS,
     withdraw::TESTS,
     join::TESTS,
+    pools::TESTS,
 ];
 
 fn main() {
