@@ -2,3 +2,4 @@
 pub mod Abi
 pub mod StudyCalls
 pub mod RecordCalls
+pub mod CompanyCalls

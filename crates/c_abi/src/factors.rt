@@ -61,7 +61,7 @@ pub extern "C" fn ltd_factor(group: u8, terminations: u32, expected: i64, out: &
 }
 
 // The five T of a list that has five numbers.
-fn five(t: &[u64]) -> [u64; 5]
+pub(crate) fn five(t: &[u64]) -> [u64; 5]
     requires { ⌜ length (now t) ≡ 5 ⌝ }
     ensures { λ r. ⌜ r ≡ now (t .entry) ⌝ }
 {
