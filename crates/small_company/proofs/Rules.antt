@@ -89,8 +89,8 @@ module _ (new old : List ℕ) where
 pub small-company-rule : SmallCompanyRule
 small-company-rule =
     record {
-      exempt-where = λ d bytes new old z. exempt-where d bytes new old z;
-      exempt-only = λ d bytes new old z. exempt-only d bytes new old z;
+      exempt-where = λ d bytes new old z r a. exempt-where d bytes new old z (omega tests) (omega tests);
+      exempt-only = λ d bytes new old z h. let p = exempt-only d bytes new old z h in (omega tests, omega tests);
       one-count = one-count;
       group-first =
           λ d bytes new old k z f e.

@@ -140,8 +140,8 @@ fn count_claims(bytes: &[u8], first: Day, last: Day) -> Counted
         recent: 0,
         earlier: 0,
     };
-    let records = bytes.len() / 32;
-    for place in 0..records {
+    let count = bytes.len() / 32;
+    for place in 0..count {
         let MaybeClaim::Found(claim) = read_record(bytes, 32 * place) else {
             // Never: the list is made of records.
             return uncounted(refusal::BLOCK);

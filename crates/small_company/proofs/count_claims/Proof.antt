@@ -15,10 +15,10 @@ use Rattle.small_company.proofs.count_claims.Statement.{statement}
 use Rattle.small_company.proofs.count_claims.Tie as tie
 
 abbrev Inv-loop : tie.InvT-loop
-Inv-loop bytes first last counts₀ records₀ place₀ counts place = Walked (first .0) (last .0) bytes place counts
+Inv-loop bytes first last counts₀ count₀ place₀ counts place = Walked (first .0) (last .0) bytes place counts
 
 abbrev μ-loop : tie.MeasureT-loop
-μ-loop bytes first last counts₀ records₀ place₀ counts place = records bytes - place
+μ-loop bytes first last counts₀ count₀ place₀ counts place = records bytes - place
 
 loop-holds : tie.Need-loop-holds Inv-loop μ-loop
 loop-holds c = begins _ _ _ (list-padded _ (c .before .pre))
