@@ -2,7 +2,7 @@
 //! the benchmark measures against it.
 //!
 //! Layers as in the paper: `calendar`, `claim` and `months`, `study`, `valuation`; beside them the lent `rates`, the claim file (`block`,
-//! `run`) and what the program prints (`report`); `examples`, `generate`, `load` and `rng` make inputs for tests and measurements.
+//! `run`), what the program prints (`report`) and the rule for a `small_company`; `examples`, `generate`, `load` and `rng` make inputs for tests and measurements.
 
 pub mod block;
 pub mod calendar;
@@ -15,6 +15,7 @@ pub mod rates;
 pub mod report;
 pub mod rng;
 pub mod run;
+pub mod small_company;
 pub mod study;
 pub mod valuation;
 

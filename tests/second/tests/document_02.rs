@@ -10,6 +10,7 @@ use second::rates::{RateTable, Rates, RatesByDuration, CELL_LENGTH};
 use second::report::{decode_rates, report};
 use second::rng::Rng;
 use second::run::run_file;
+use second::small_company::{small_company, SmallCompany};
 use second::study::{duration_group, GroupSums, Study};
 use second::valuation::{factor, reserve_limit, wanted_count, Factor, Limited};
 use second::Refusal;
@@ -565,6 +566,120 @@ fn pools_of_500_000_claims_in_any_grouping() {
         assert_eq!(pool, whole);
         assert_eq!(joined(&pool, &study_of(window, &[], &rates)), Ok(pool));
         assert_eq!(joined(&pool, &study_of(window, &claims[..1], &rates)), Err(9));
+    }
+}
+
+// No. 14: the small company rule.
+
+/// T that don't move.
+const SAME_T: [u64; 5] = [1_000_000, 900_000, 1_100_000, 1_200_000, 800_000];
+
+/// Open claims disabled on some days, EP 15.
+fn disabled_on(days: &[(&str, usize)]) -> Vec<u8> {
+    let claims = days.iter().flat_map(|&(disability, count)| {
+        let bcd = (day(disability) + 15).date();
+        vec![Claim { disability: date(disability), bcd, ..Claim::default() }; count]
+    });
+    claims.flat_map(|claim| claim_record(&claim)).collect()
+}
+
+/// Whether the carrier is exempt, and both counts.
+fn counted(valuation: &str, records: &[u8]) -> (bool, u64, u64) {
+    let found = small_company(date(valuation), records, &SAME_T, &SAME_T).unwrap();
+    assert_eq!((found.group, found.t), (0, if found.exempt { [1_000_000; 5] } else { SAME_T }));
+    (found.exempt, found.recent, found.earlier)
+}
+
+#[test]
+fn a_carrier_is_exempt_below_both_limits() {
+    for (recent, earlier, exempt) in [(0, 0, true), (49, 199, true), (50, 0, false), (49, 200, false), (0, 200, false), (50, 200, false)] {
+        let records = disabled_on(&[("2015-06-30", recent), ("2010-01-01", earlier), ("2017-01-01", 300)]);
+        assert_eq!(counted("2016-12-31", &records), (exempt, recent as u64, earlier as u64));
+    }
+}
+
+#[test]
+fn the_same_day_two_years_before_counts_as_within() {
+    for (valuation, disability, recent, earlier) in [
+        ("2016-07-15", "2014-07-15", 1, 0),
+        ("2016-07-15", "2014-07-14", 0, 1),
+        ("2016-07-15", "2016-07-15", 1, 0),
+        ("2016-07-15", "2016-07-16", 0, 0),
+        ("2016-02-29", "2014-02-28", 1, 0),
+        ("2016-02-29", "2014-02-27", 0, 1),
+        ("2016-03-01", "2014-02-28", 0, 1),
+        ("2018-02-28", "2016-02-28", 1, 0),
+        ("2018-02-28", "2016-02-27", 0, 1),
+        ("2018-03-01", "2016-02-29", 0, 1),
+        // Two years before lies in 1949, and then on the first day of the calendar.
+        ("1951-12-31", "1950-01-01", 1, 0),
+        ("1950-06-30", "1950-01-01", 1, 0),
+        ("1950-06-30", "1950-07-01", 0, 0),
+        ("1952-01-01", "1950-01-01", 1, 0),
+        ("1952-01-02", "1950-01-01", 0, 1),
+        ("2099-12-31", "2097-12-31", 1, 0),
+    ] {
+        assert_eq!(counted(valuation, &disabled_on(&[(disability, 1)])), (true, recent, earlier), "{valuation} {disability}");
+    }
+    // Closed claims count in neither.
+    let closed = claim_record(&closed_claim("2015-06-30", "2016-06-30", RECOVERY)).repeat(60);
+    assert_eq!(counted("2016-12-31", &closed), (true, 0, 0));
+}
+
+#[test]
+fn the_first_group_that_moves_by_more_than_a_tenth() {
+    let records = disabled_on(&[("2015-06-30", 50)]);
+    let found = |new: [u64; 5], old: [u64; 5]| {
+        let found = small_company(date("2016-12-31"), &records, &new, &old).unwrap();
+        assert_eq!((found.exempt, found.recent, found.earlier, found.t), (false, 50, 0, new));
+        found.group
+    };
+    assert_eq!(found([1_000_000; 5], [1_000_000; 5]), 0);
+    // Up and down by a tenth, and by one more.
+    assert_eq!(found([1_100_000, 900_000, 1_100_000, 900_000, 1_100_000], [1_000_000; 5]), 0);
+    assert_eq!(found([1_100_000, 900_000, 1_100_001, 900_000, 0], [1_000_000; 5]), 3);
+    assert_eq!(found([1_100_000, 899_999, 1_100_000, 900_000, 0], [1_000_000; 5]), 2);
+    assert_eq!(found([1_000_000, 1_000_000, 1_000_000, 1_000_000, 1_100_001], [1_000_000; 5]), 5);
+    assert_eq!(found([0; 5], [0; 5]), 0);
+    assert_eq!(found([0, 0, 0, 1, 0], [0; 5]), 4);
+    // Ten times the difference past 64 bits.
+    let (high, tenth) = (u64::MAX, u64::MAX / 10);
+    assert_eq!(found([high, high - tenth, high - tenth - 1, 0, 0], [high; 5]), 3);
+    assert_eq!(found([high; 5], [high, high, high - tenth, 0, 0]), 3);
+    assert_eq!(found([high, 0, 0, 0, 0], [high, 0, 1 << 63, 1 << 60, 9]), 3);
+}
+
+#[test]
+fn the_valuation_date_the_records_and_then_each_claim_are_checked() {
+    let sound = disabled_on(&[("2015-06-30", 3)]);
+    let refused = |valuation: Date, records: &[u8]| small_company(valuation, records, &SAME_T, &SAME_T).err().map(Refusal::number);
+    let (bad, valuation) = (Date::new(2015, 2, 29), date("2016-12-31"));
+    assert_eq!(refused(valuation, &sound), None);
+    let nobody = SmallCompany { exempt: true, recent: 0, earlier: 0, group: 0, t: [1_000_000; 5] };
+    assert_eq!(small_company(valuation, &[], &SAME_T, &[0; 5]), Ok(nobody));
+    assert_eq!([bad, Date::MISSING].map(|date| refused(date, &sound[1..])), [Some(2); 2]);
+    assert_eq!([1, 31, 33, 95].map(|length| refused(valuation, &sound[..length])), [Some(11); 4]);
+    let claim = closed_claim("2011-02-10", "2012-05-20", RECOVERY);
+    let faults = [
+        (2, Claim { maximum: bad, ..claim }),
+        (3, Claim { code: 7, ..claim }),
+        (4, Claim { termination: date("2011-02-09"), benefit: 201, ..claim }),
+        (16, Claim { benefit: 201, disability: claim.bcd, ..claim }),
+        (5, Claim { disability: claim.bcd, ..claim }),
+    ];
+    for (number, fault) in faults {
+        // A wrong zero byte, or a part of a record, anywhere after it comes first; then the first claim that fails.
+        let records = [&sound[..], &claim_record(&fault)].concat();
+        assert_eq!(refused(valuation, &records), Some(number));
+        for at in 25..32 {
+            let mut wrong = [&records[..], &sound].concat();
+            wrong[records.len() + 32 + at] = 1;
+            assert_eq!(refused(valuation, &wrong), Some(11));
+        }
+        assert_eq!(refused(valuation, &[&records[..], &[0]].concat()), Some(11));
+        for (_, other) in faults {
+            assert_eq!(refused(valuation, &[&records[..], &sound, &claim_record(&other)].concat()), Some(number));
+        }
     }
 }
 
