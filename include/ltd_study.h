@@ -94,6 +94,15 @@ uint8_t ltd_reserve_limit(const uint32_t *rates, size_t rates_len, const uint32_
                           size_t t_len, uint64_t group_3_count, double v, uint64_t *t_out, size_t t_out_len, double *totals,
                           size_t totals_len);
 
+/* The small company rule, over claims, 32 bytes each, one record after the other, as many as there are. Into out (9 numbers): 1 for an exempt
+   carrier, else 0; open claims disabled within two years of date, the same day two years before included, and open claims disabled
+   earlier; a group; five T. A carrier is exempt if these counts are below 50 and 200: it has group 0 and five T of 1,000,000. Another has
+   new_t, and the first group in which ten times the difference of new_t and old_t exceeds old_t, or 0. Answers 0 or the number refused, out
+   untouched: 2 (date), then 11 (a part of a record at the end, or a record whose bytes 25 to 31 are not all zero), then the first claim's
+   2 to 5 or 16, closed claims too. 255 if new_t or old_t has not five numbers or out is shorter than 9. */
+uint8_t ltd_small_company(uint32_t date, const uint8_t *claims, size_t claims_len, const uint64_t *new_t, size_t new_t_len,
+                          const uint64_t *old_t, size_t old_t_len, uint64_t *out, size_t out_len);
+
 /* Reads a claim block (512 bytes) at the number due into claims (480 bytes): 32 bytes for each claim, its record, the rest untouched.
    Answers how many claims, or 2^32 + 11 (due 0 is refused too: ltd_read_window reads block 0), claims untouched. 2^32 + 255 if claims is
    shorter than 480. */

@@ -74,6 +74,18 @@ mod c {
             totals_len: usize,
         ) -> u8;
 
+        pub fn ltd_small_company(
+            date: u32,
+            claims: *const u8,
+            claims_len: usize,
+            new_t: *const u64,
+            new_t_len: usize,
+            old_t: *const u64,
+            old_t_len: usize,
+            out: *mut u64,
+            out_len: usize,
+        ) -> u8;
+
         pub fn ltd_read_block(block: *const u8, block_len: usize, due: u32, claims: *mut u8, claims_len: usize) -> u64;
 
         pub fn ltd_write_block(number: u32, claims: *const u8, claims_len: usize, block: *mut u8, block_len: usize) -> u8;
@@ -193,6 +205,14 @@ pub fn reserve_limit(
             head_mut(totals),
             totals.len(),
         )
+    }
+}
+
+/// Whether a carrier is exempt, both counts, a group and five T into `out` (9 numbers), from its claims' records, the new T and those in use
+/// (five numbers each).
+pub fn small_company(date: u32, claims: &[u8], new_t: &[u64], old_t: &[u64], out: &mut [u64]) -> u8 {
+    unsafe {
+        c::ltd_small_company(date, head(claims), claims.len(), head(new_t), new_t.len(), head(old_t), old_t.len(), head_mut(out), out.len())
     }
 }
 

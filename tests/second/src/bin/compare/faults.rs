@@ -11,6 +11,8 @@ use second::study::Study;
 
 /// The faults that checks find, in the order of the checks: the window, the claim, the rates, room.
 pub const FAULTS: [u8; 10] = [WINDOW, DATE, STATUS, SEQUENCE, BENEFIT, SHORT_ELIMINATION, RATE_TABLE, CELL, RATE, FULL];
+/// Those of the claim alone.
+pub const OF_CLAIM: [u8; 5] = [DATE, STATUS, SEQUENCE, BENEFIT, SHORT_ELIMINATION];
 
 /// A closed claim and rates of two cells with some of the faults.
 #[derive(Debug)]

@@ -21,6 +21,7 @@ mod pools;
 mod prepared;
 mod reserve_limit;
 mod short_lists;
+mod small_company;
 mod studies;
 mod valuation;
 mod wanted_count;
@@ -67,6 +68,7 @@ const SUBJECTS: &[&[Test]] = &[
     withdraw::TESTS,
     join::TESTS,
     pools::TESTS,
+    small_company::TESTS,
 ];
 
 fn main() {

@@ -8,6 +8,7 @@ use second::ffi;
 use second::months::listing;
 use second::rates::{prepare, RateTable};
 use second::run::{run_file, run_prepared_file, FileRun, RUN_LENGTH};
+use second::small_company::{small_company, SmallCompany};
 use second::study::{Study, STUDY_LENGTH};
 use second::valuation::{factor, reserve_factor, reserve_limit, valuation_rate, wanted_count, Factor, Limited};
 use second::Refusal;
@@ -438,6 +439,33 @@ pub fn compare_reserve_limit(
                 list(rates)
             )
         },
+    )
+}
+
+/// Judges a carrier with both into a list of `length` numbers; the answer and the first one's list.
+pub fn compare_small_company(
+    valuation: Date,
+    records: &[u8],
+    new_t: &[u64],
+    old_t: &[u64],
+    length: usize,
+) -> Result<(u8, Vec<u64>), String> {
+    compare_lent(
+        &pattern(length),
+        |out| ffi::small_company(valuation.to_number(), records, new_t, old_t, out),
+        |out| {
+            let (Ok(new_t), Ok(old_t), Some(out)) = (new_t.try_into(), old_t.try_into(), out.first_chunk_mut::<9>()) else {
+                return WRONG_FORM;
+            };
+            let found = small_company(valuation, records, new_t, old_t);
+            if let Ok(SmallCompany { exempt, recent, earlier, group, t }) = found {
+                out[..4].copy_from_slice(&[exempt.into(), recent, earlier, group.into()]);
+                out[4..].copy_from_slice(&t);
+            }
+            answer(&found)
+        },
+        EACH,
+        || format!("valued {valuation}, new T {new_t:?}, old T {old_t:?}, list of {length}, records {}", hex(records)),
     )
 }
 
