@@ -186,6 +186,11 @@ padded-at bytes (suc n) k p h =
     (λ (l : k < n). padded-at bytes n k (and-left (claimsPadded bytes n) (recordPadded bytes (16 + 32 * n)) p) l)
     (eq-or-lt-of-le (le-of-suc-le-suc h))
 
+pub length-read : (bytes : List ℕ) (n k : ℕ) → length (claimsOfBlock bytes k n) ≡ n
+unfolding claimsOfBlock
+length-read bytes zero k = refl
+length-read bytes (suc n) k = ap suc (length-read bytes n (suc k))
+
 module _ (due : ℕ) (bytes : List ℕ) (small : (j : ℕ) → j < 512 → byteAt bytes j < 256) where
   claims-split : ClaimBlock due bytes → (n k : ℕ) → k + n ≤ claimCount bytes
       → drop (16 + 32 * k) bytes ≡ allClaimBytes (claimsOfBlock bytes k n) ++ drop (16 + 32 * (k + n)) bytes
@@ -201,11 +206,6 @@ module _ (due : ℕ) (bytes : List ℕ) (small : (j : ℕ) → j < 512 → byteA
       (ap (λ (j : ℕ). drop j bytes) e ∙ claims-split b n (suc k) (omega arith) ∙ ap (λ (j : ℕ). allClaimBytes (claimsOfBlock bytes (suc k) n) ++ drop (16 + 32 * j) bytes) g)
       ∙ sym (append-assoc (claimBytes (claimFrom bytes (16 + 32 * k))) (allClaimBytes (claimsOfBlock bytes (suc k) n)) (drop (16 + 32 * (k + suc n)) bytes))
 
-  length-read : (n k : ℕ) → length (claimsOfBlock bytes k n) ≡ n
-  unfolding claimsOfBlock
-  length-read zero k = refl
-  length-read (suc n) k = ap suc (length-read n (suc k))
-
   pub rewritten : claimBlock due bytes ≡ true → blockBytes due (claimsOfBlock bytes 0 (claimCount bytes)) ≡ bytes
   unfolding blockBytes
   rewritten s =
@@ -214,7 +214,7 @@ module _ (due : ℕ) (bytes : List ℕ) (small : (j : ℕ) → j < 512 → byteA
       let f = b .count-so in
       let n = claimCount bytes in
       let cs = claimsOfBlock bytes 0 n in
-      let q : length cs ≡ n = length-read n 0 in
+      let q : length cs ≡ n = length-read bytes n 0 in
       let z : 494 - 32 * length cs ≡ 494 - 32 * n = omega arith in
       let x : 16 + 32 * n + (494 - 32 * n) ≡ 510 = omega arith in
       let m = allClaimBytes cs ++ zeros (494 - 32 * n) in

@@ -37,38 +37,38 @@ use Rattle.claim_file.proofs.Runs.{sound}
 use Rattle.claim_file.proofs.Feeding.{fed-in-pieces}
 
 -- a run without its window
-record Plain : Type 0 where
-  claims : List Claim
-  due : ℕ
-  refused : ℕ
-  block : ℕ
-  place : ℕ
+pub record Plain : Type 0 where
+  pub claims : List Claim
+  pub due : ℕ
+  pub refused : ℕ
+  pub block : ℕ
+  pub place : ℕ
 
-abbrev plain : List Claim → ℕ → ℕ → ℕ → ℕ → Plain
+abbrev pub plain : List Claim → ℕ → ℕ → ℕ → ℕ → Plain
 plain cs due number block place = record { claims = cs; due = due; refused = number; block = block; place = place }
 
-abbrev goOn : Plain → List Claim → Plain
+abbrev pub goOn : Plain → List Claim → Plain
 goOn p cs = plain cs (p .due + 1) 0 0 0
 
-abbrev stop : Plain → List Claim → ℕ → ℕ → Plain
+abbrev pub stop : Plain → List Claim → ℕ → ℕ → Plain
 stop p cs number place = plain cs (p .due) number (p .due) place
 
 module _ (rates : List ℕ) where
-  plainClaims : Plain → List Claim → List ℕ → ℕ → ℕ → Plain
+  unfoldable pub plainClaims : Plain → List Claim → List ℕ → ℕ → ℕ → Plain
   plainClaims p cs bytes k zero = goOn p cs
   plainClaims p cs bytes k (suc n) =
       pick (eqb (numberAfter rates cs (blockClaim bytes k)) 0) (plainClaims p (blockClaim bytes k ∷ cs) bytes (suc k) n)
       (stop p cs (numberAfter rates cs (blockClaim bytes k)) (suc k))
 
-  plainBlock : Plain → List ℕ → Plain
+  unfoldable pub plainBlock : Plain → List ℕ → Plain
   plainBlock p bytes =
       pick (blockSound (p .due) bytes) (plainClaims p (p .claims) bytes 0 (claimCount bytes)) (stop p (p .claims) 11 0)
 
-  plainBlocks : Plain → List ℕ → ℕ → Plain
+  unfoldable pub plainBlocks : Plain → List ℕ → ℕ → Plain
   plainBlocks p bytes zero = p
   plainBlocks p bytes (suc n) = pick (eqb (p .refused) 0) (plainBlocks (plainBlock p (take 512 bytes)) (drop 512 bytes) n) p
 
-  plainFed : Plain → List ℕ → Plain
+  unfoldable pub plainFed : Plain → List ℕ → Plain
   plainFed p bytes =
       let q = plainBlocks p bytes (length bytes / 512) in
       pick (eqb (q .refused) 0 && ltb 0 (length bytes % 512)) (stop q (q .claims) 11 0) q
@@ -179,7 +179,7 @@ module _ (rates : List ℕ) where
 
   -- the run of a window with a plain run's course
   module _ (w : Window) (ok : windowSound (w .first .0) (w .last .0) ≡ true) where
-    withStudy : Plain → FileRun
+    unfoldable pub withStudy : Plain → FileRun
     withStudy p = record { study = studyOf w rates (p .claims); due = p .due; refused = p .refused; block = p .block; place = p .place }
 
     claims-plain : (p : Plain) (bytes : List ℕ) (n k : ℕ) (cs : List Claim) → All (Accepted rates) cs
@@ -235,7 +235,7 @@ module _ (rates : List ℕ) where
     ended-plain p g = rw (ne-eqb (p .due) 0 (λ q. omega (tests, g .behind)), and-false)
 
 -- a date of the calendar fits the file's widths
-date-fits : (d : Date) → isDate d ≡ true → DateFits d
+pub date-fits : (d : Date) → isDate d ≡ true → DateFits d
 date-fits d h =
     let r = date-bounds d h in
     let l = length-high (d .year) (d .month) in
@@ -248,14 +248,14 @@ window-length b e =
     omega tests
 
 -- what block 0 of an accepted window leaves: a fresh study, and block 1 due
-abbrev first : Plain
+abbrev pub first : Plain
 first = plain [] 1 0 0 0
 
 module _ (rates : List ℕ) (w : WindowDates) (ok : Accepts w) where
   opens : (datesWindow (w .first) (w .last) ≡ true) × (opened (w .first) (w .last) .study ≡ fresh (windowDays w))
   opens = opens-window (w .first) (w .last) ok
 
-  sound-days : windowSound (windowDays w .first .0) (windowDays w .last .0) ≡ true
+  pub sound-days : windowSound (windowDays w .first .0) (windowDays w .last .0) ≡ true
   sound-days = dates-sound (w .first) (w .last) (opens .0)
 
   window-block : blockFed started (adding rates) (windowBytes (w .first) (w .last)) ≡ withStudy rates (windowDays w) sound-days first
@@ -279,7 +279,7 @@ module _ (rates : List ℕ) (w : WindowDates) (ok : Accepts w) where
       let n = window-length (w .first) (w .last) in
       rw (n, take-all 512 (windowBytes (w .first) (w .last)) (omega tests), window-block)
 
-  run-plain : (rest : List ℕ) → runOf rates rest w ≡ withStudy rates (windowDays w) sound-days (plainFed rates first rest)
+  pub run-plain : (rest : List ℕ) → runOf rates rest w ≡ withStudy rates (windowDays w) sound-days (plainFed rates first rest)
   unfolding runOf fileRunWith
   run-plain rest =
       let g : Good rates first = record { accepted = tt; behind = omega tests } in

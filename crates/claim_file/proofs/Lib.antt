@@ -1,5 +1,5 @@
 -- `RoundTrip`: the round trips of the calls. `Feeding`: a file in pieces. `Files`: demand 3 for files. `SameRuns`: runs with a prepared table. `OlderRuns`: files from before document 02's Nos. 4 and 7. `Reading`: a claim block read. `ByteStores`: runs
--- of stores, of claims' records among them. The other modules have what these and the proofs of the calls cite.
+-- of stores, of claims' records among them. `ReadBack`: the claims of a written block. `WholeRuns`: files that run to their end. The other modules have what these and the proofs of the calls cite.
 pub mod RoundTrip
 pub mod Feeding
 pub mod Files
@@ -7,6 +7,8 @@ pub mod SameRuns
 pub mod OlderRuns
 pub mod Reading
 pub mod ByteStores
+pub mod ReadBack
+pub mod WholeRuns
 mod BlockTrips
 mod Runs
 mod LentRuns
