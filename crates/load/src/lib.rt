@@ -1,7 +1,6 @@
 // A load that anyone can rebuild (document 02, No. 13).
 ghost use mathlib.Core.Path.{_≡_};
 ghost use Prim.Native.Nat.{_+_, _%_, _≤_};
-ghost use lib.Dec.{eqb};
 ghost use Rattle.basics.specs.Pick.{pick};
 ghost use Rattle.calendar.specs.Calendar.{dateOf, lastDayNumber};
 ghost use Rattle.claim_file.specs.BlockAnswers.{noDate};

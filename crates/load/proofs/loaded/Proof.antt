@@ -1,6 +1,6 @@
 -- `loaded` meets its contract: each draw is the next one of x, and the claim is made of the five. Assumes nothing.
 use Prim.Native.Nat.{ℕ, _+_, _%_}
-use mathlib.Core.Path.{_≡_, refl, ap, _∙_}
+use mathlib.Core.Path.{_≡_, ap, _∙_}
 use lib.Dec.{eqb}
 use borrow.Author.Needs.{needs}
 use Rattle.basics.specs.Pick.{pick}
