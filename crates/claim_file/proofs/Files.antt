@@ -241,7 +241,7 @@ date-fits d h =
     let l = length-high (d .year) (d .month) in
     record { year-fits = omega tests; month-fits = omega tests; day-fits = omega tests }
 
-window-length : (b e : Date) → length (windowBytes b e) ≡ 512
+pub window-length : (b e : Date) → length (windowBytes b e) ≡ 512
 unfolding windowBlock framed
 window-length b e =
     let t = simp and-eq-true-iff at (window-sound b e) in

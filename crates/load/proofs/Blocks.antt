@@ -27,10 +27,10 @@ module _ (number : ℕ) (cs : List Claim) (rest : List ℕ) (l : 1 ≤ number) (
   size : length (blockBytes number (take 15 cs)) ≡ 512
   size = block-length number (take 15 cs) (few cs) l h
 
-  first-block : take 512 (blockBytes number (take 15 cs) ++ rest) ≡ blockBytes number (take 15 cs)
+  pub first-block : take 512 (blockBytes number (take 15 cs) ++ rest) ≡ blockBytes number (take 15 cs)
   first-block = take-at (blockBytes number (take 15 cs)) rest 512 size
 
-  behind : drop 512 (blockBytes number (take 15 cs) ++ rest) ≡ rest
+  pub behind : drop 512 (blockBytes number (take 15 cs) ++ rest) ≡ rest
   behind = drop-at (blockBytes number (take 15 cs)) rest 512 size
 
 pub blocks-length : (n number : ℕ) (cs : List Claim) → 1 ≤ number → number + n ≤ 65536 → length (blocksFrom n number cs) ≡ 512 * n

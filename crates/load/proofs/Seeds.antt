@@ -43,7 +43,7 @@ seed-at zero x h = h
 seed-at (suc i) x h = drawn-seed 5 (seedAt x i) (seed-at i x h)
 
 -- the steps after the first are those of the x that it reached
-later-seed : (x i : ℕ) → seedAt (drawn 5 x) i ≡ seedAt x (suc i)
+pub later-seed : (x i : ℕ) → seedAt (drawn 5 x) i ≡ seedAt x (suc i)
 unfolding seedAt
 later-seed x zero = refl
 later-seed x (suc i) = ap (drawn 5) (later-seed x i)
@@ -53,7 +53,7 @@ unfolding loadFrom
 load-length zero x number = refl
 load-length (suc n) x number = ap suc (load-length n (drawn 5 x) (suc number))
 
-claim-from : (n x number i : ℕ) → i < n → getD (loadFrom x number n) i noClaim ≡ loadClaim (seedAt x i) (number + i)
+pub claim-from : (n x number i : ℕ) → i < n → getD (loadFrom x number n) i noClaim ≡ loadClaim (seedAt x i) (number + i)
 unfolding loadFrom seedAt
 claim-from zero x number i h = absurd (not-suc-le-zero h)
 claim-from (suc n) x number zero h = let e : number ≡ number + 0 = omega tests in ap (loadClaim x) e
@@ -66,7 +66,7 @@ unfolding load
 claim-at x size i h = let e : 1 + i ≡ suc i = omega tests in claim-from size x 1 i h ∙ ap (loadClaim (seedAt x i)) e
 
 -- a sound step is answered with its claim
-answered : (x size number : ℕ) → seedSound x ≡ true → size ≤ 500000 → 1 ≤ number → number ≤ size
+pub answered : (x size number : ℕ) → seedSound x ≡ true → size ≤ 500000 → 1 ≤ number → number ≤ size
     → loadStep x size number ≡ Loaded (record { claim = loadClaim x number; x = drawn 5 x })
 unfolding loadStep stepSound
 answered x size number s h l m = rw (s, le-leb size 500000 h, le-leb 1 number l, le-leb number size m)
