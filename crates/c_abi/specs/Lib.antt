@@ -3,3 +3,4 @@ pub mod Abi
 pub mod StudyCalls
 pub mod RecordCalls
 pub mod CompanyCalls
+pub mod LoadCalls

@@ -3,4 +3,5 @@ mod block;
 mod companies;
 mod factors;
 mod listing;
+mod loads;
 mod study_calls;
