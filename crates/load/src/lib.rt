@@ -1,10 +1,10 @@
 // A load that anyone can rebuild (document 02, No. 13).
 ghost use mathlib.Core.Path.{_≡_};
-ghost use Prim.Native.Nat.{_+_, _%_, _≤_};
-ghost use Rattle.basics.specs.Pick.{pick};
+ghost use Prim.Native.Nat.{_+_, _≤_};
 ghost use Rattle.calendar.specs.Calendar.{dateOf, lastDayNumber};
 ghost use Rattle.claim_file.specs.BlockAnswers.{noDate};
 ghost use Rattle.load.specs.Load.{draw, drawn, loadClaim, stepSound, loadStep};
+ghost use Rattle.load.specs.Private.{endingOf};
 use basics::refusal;
 use calendar::Date;
 use calendar::Day;
@@ -21,6 +21,13 @@ pub struct LoadedClaim {
 pub enum MaybeLoaded {
     Loaded(LoadedClaim),
     Refused(u8),
+}
+
+// What a claim ends with: termination date and code, and the x reached.
+struct Ending {
+    termination: Date,
+    code: u8,
+    x: u32,
 }
 
 // The x that a draw sets, and is.
@@ -53,25 +60,26 @@ fn date_on(number: u32) -> Date
     }
 }
 
-// A closed claim's termination date; an open one's is missing.
-fn termination_on(closed: bool, number: u32) -> Date
-    requires { ⌜ number ≤ lastDayNumber ⌝ }
-    ensures { λ r. ⌜ r ≡ pick closed (dateOf number) noDate ⌝ }
+// The last two draws of a claim, from the x that the third set: what a closed claim ends with, and the x reached. They are made of an open claim
+// too, which has no end.
+fn last_draws(closed: bool, bcd: u32, x: u32) -> Ending
+    requires { ⌜ bcd + 3999 ≤ lastDayNumber ⌝ }
+    ensures { λ r. ⌜ r ≡ endingOf closed bcd x ⌝ }
 {
+    let fourth = draw(x);
+    let fifth = draw(fourth);
     if closed {
-        return date_on(number);
+        return Ending {
+            termination: date_on(bcd + fourth % 4000),
+            code: 1 + (fifth % 5) as u8,
+            x: fifth,
+        };
     }
-    no_date()
-}
-
-// A closed claim's code; an open one has none.
-fn code_of(closed: bool, drawn: u32) -> u8
-    ensures { λ r. ⌜ r ≡ pick closed (1 + drawn % 5) 0 ⌝ }
-{
-    if closed {
-        return 1 + (drawn % 5) as u8;
+    Ending {
+        termination: no_date(),
+        code: 0,
+        x: fifth, // not the x given: both draws are made
     }
-    0
 }
 
 // The claim with a number that x gives, by five draws whatever the claim, and the x reached.
@@ -81,24 +89,23 @@ fn loaded(x: u32, number: u32) -> LoadedClaim
     let first = draw(x);
     let second = draw(first);
     let third = draw(second);
-    let fourth = draw(third);
-    let fifth = draw(fourth);
     let disability = first % 20000;
     let bcd = disability + (15 + second % 351);
     let status = (third % 2) as u8;
-    let closed = status == 1;
+    let end = last_draws(status == 1, bcd, third);
+    let termination = end.termination;
     let claim = Claim {
         number,
         disability: date_on(disability),
         bcd: date_on(bcd),
-        termination: termination_on(closed, bcd + fourth % 4000),
+        termination,
         maximum: no_date(),
         status,
-        code: code_of(closed, fifth),
+        code: end.code,
         cell: 0,
         benefit: 0,
     };
-    LoadedClaim { claim, x: fifth }
+    LoadedClaim { claim, x: end.x }
 }
 
 // Whether a seed, a size and a claim number are those of a step.
