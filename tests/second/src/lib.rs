@@ -2,7 +2,8 @@
 //! the benchmark measures against it.
 //!
 //! Layers as in the paper: `calendar`, `claim` and `months`, `study`, `valuation`; beside them the lent `rates`, the claim file (`block`,
-//! `run`), what the program prints (`report`) and the rule for a `small_company`; `examples`, `generate`, `load` and `rng` make inputs for tests and measurements.
+//! `run`), what the program prints (`report`), the rule for a `small_company` and the load that anyone can rebuild (`shared_load`);
+//! `examples`, `generate`, `load` and `rng` make inputs for tests and measurements.
 
 pub mod block;
 pub mod calendar;
@@ -15,6 +16,7 @@ pub mod rates;
 pub mod report;
 pub mod rng;
 pub mod run;
+pub mod shared_load;
 pub mod small_company;
 pub mod study;
 pub mod valuation;
@@ -44,6 +46,7 @@ pub enum Refusal {
     OpenClaims = 17,
     NotTaken = 18,
     NoSuchCount = 19,
+    Load = 20,
 }
 
 impl Refusal {

@@ -1,8 +1,8 @@
 //! The second implementation against the change requests of document 02, each with its own examples.
 
-use second::block::{claim_record, read_claim};
+use second::block::{claim_record, read_block, read_claim, Block};
 use second::calendar::{Date, Day};
-use second::claim::{Claim, Duration, CHANGE_OF_DEFINITION, MAX_OUT, RECOVERY, SETTLEMENT};
+use second::claim::{Claim, Duration, CHANGE_OF_DEFINITION, CLOSED, DEATH, MAX_OUT, RECOVERY, SETTLEMENT};
 use second::examples::{closed_claim, date, day, flat_rates, open_claim, rows_in, STUDY_WINDOW};
 use second::generate::{claim_file, sound_claim, sound_rates, sound_window};
 use second::months::Window;
@@ -10,6 +10,7 @@ use second::rates::{RateTable, Rates, RatesByDuration, CELL_LENGTH};
 use second::report::{decode_rates, report};
 use second::rng::Rng;
 use second::run::run_file;
+use second::shared_load::{load, load_claim};
 use second::small_company::{small_company, SmallCompany};
 use second::study::{duration_group, GroupSums, Study};
 use second::valuation::{factor, reserve_limit, wanted_count, Factor, Limited};
@@ -681,6 +682,74 @@ fn the_valuation_date_the_records_and_then_each_claim_are_checked() {
             assert_eq!(refused(valuation, &[&records[..], &sound, &claim_record(&other)].concat()), Some(number));
         }
     }
+}
+
+// No. 13: a load that anyone can rebuild.
+
+/// Draws by hand: 48,271, 182,605,794, 1,291,394,886, 1,914,720,637 and 2,078,669,041 are the first five from 1.
+#[test]
+fn the_first_claims_of_some_loads() {
+    let claim =
+        |number: u32, disability: &str, bcd: &str| Claim { number, disability: date(disability), bcd: date(bcd), ..Claim::default() };
+    let closed = |claim: Claim, termination: &str, code: u8| Claim { status: CLOSED, termination: date(termination), code, ..claim };
+    let claims = [
+        claim(1, "1972-08-24", "1973-02-05"),
+        closed(claim(2, "1992-12-09", "1993-05-16"), "2000-09-27", DEATH),
+        closed(claim(3, "1956-06-29", "1956-11-28"), "1965-07-13", MAX_OUT),
+    ];
+    assert_eq!(load(1, 3).unwrap(), claims);
+    assert_eq!(load_claim(1, 500_000, 7), Ok((Claim { number: 7, ..claims[0] }, 2_078_669_041)));
+    assert_eq!(load_claim(2_078_669_041, 2, 2), Ok((claims[1], 1_596_680_831)));
+    let highest = closed(claim(1, "1992-02-06", "1992-09-19"), "2000-12-16", DEATH);
+    assert_eq!(load_claim(2_147_483_646, 1, 1), Ok((highest, 68_814_606)));
+}
+
+/// The generator's published figure: from 1 the 10,000th draw is 399,268,537.
+#[test]
+fn five_draws_a_claim_whatever_its_status() {
+    let mut x = 1;
+    for number in 1..=2_000 {
+        x = load_claim(x, 2_000, number).unwrap().1;
+    }
+    assert_eq!(x, 399_268_537);
+}
+
+#[test]
+fn drawn_claims_pass_their_checks_and_blocks_read_back_to_them() {
+    let mut rng = Rng::new(110);
+    for _ in 0..40 {
+        let (seed, size) = (rng.range(1, 2_147_483_646) as u32, rng.range(0, 400) as u32);
+        let claims = load(seed, size).unwrap();
+        for (number, claim) in (1..).zip(&claims) {
+            assert_eq!((claim.number, claim.cell, claim.benefit, claim.maximum), (number, 0, 0, Date::MISSING));
+            assert!(claim.check().is_ok(), "{claim}");
+        }
+        // More of them begin with fewer.
+        assert_eq!(load(seed, size + 5).unwrap()[..size as usize], claims);
+        let file = claim_file(STUDY_WINDOW, &claims, None);
+        let mut read = Vec::new();
+        for (number, block) in (1..).zip(file.chunks(512).skip(1)) {
+            let Ok(Block::Claims(block)) = read_block(block, number) else { panic!() };
+            read.extend_from_slice(&block.claims[..block.count]);
+        }
+        assert_eq!(read, claims);
+        assert_eq!(run_file(&file, &flat_rates(1, 1)).study.claims_taken, size);
+    }
+}
+
+#[test]
+fn another_seed_size_or_number_is_refused() {
+    let refused = |x: u32, size: u32, number: u32| load_claim(x, size, number).err().map(Refusal::number);
+    for (x, size, number) in [(1, 1, 1), (2_147_483_646, 500_000, 500_000), (7, 500_000, 1), (7, 2, 2)] {
+        assert_eq!(refused(x, size, number), None);
+    }
+    for x in [0, 2_147_483_647, 2_147_483_648, u32::MAX] {
+        assert_eq!(refused(x, 1, 1), Some(20));
+    }
+    for (size, number) in [(500_001, 1), (u32::MAX, 1), (0, 0), (0, 1), (1, 0), (1, 2), (500_000, 500_001), (500_000, u32::MAX)] {
+        assert_eq!(refused(1, size, number), Some(20));
+    }
+    assert_eq!(load(1, 0), Ok(vec![]));
 }
 
 // No. 9: the 1.30 limit judged on reserves.
