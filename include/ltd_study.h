@@ -103,6 +103,11 @@ uint8_t ltd_reserve_limit(const uint32_t *rates, size_t rates_len, const uint32_
 uint8_t ltd_small_company(uint32_t date, const uint8_t *claims, size_t claims_len, const uint64_t *new_t, size_t new_t_len,
                           const uint64_t *old_t, size_t old_t_len, uint64_t *out, size_t out_len);
 
+/* The claim due of a load that anyone can rebuild: from x, which is the seed for claim 1 and then the x reached, the load's size and the
+   claim's number, 1 to size. Writes the x reached into x_out (1 number) and the claim's record into claim (32 bytes). Answers 0, or 20 with
+   both untouched: x not 1 to 2,147,483,646, size over 500,000, another number. 255 if x_out has no number or claim is shorter than 32. */
+uint8_t ltd_load_claim(uint32_t x, uint32_t size, uint32_t number, uint32_t *x_out, size_t x_out_len, uint8_t *claim, size_t claim_len);
+
 /* Reads a claim block (512 bytes) at the number due into claims (480 bytes): 32 bytes for each claim, its record, the rest untouched.
    Answers how many claims, or 2^32 + 11 (due 0 is refused too: ltd_read_window reads block 0), claims untouched. 2^32 + 255 if claims is
    shorter than 480. */

@@ -86,6 +86,8 @@ mod c {
             out_len: usize,
         ) -> u8;
 
+        pub fn ltd_load_claim(x: u32, size: u32, number: u32, x_out: *mut u32, x_out_len: usize, claim: *mut u8, claim_len: usize) -> u8;
+
         pub fn ltd_read_block(block: *const u8, block_len: usize, due: u32, claims: *mut u8, claims_len: usize) -> u64;
 
         pub fn ltd_write_block(number: u32, claims: *const u8, claims_len: usize, block: *mut u8, block_len: usize) -> u8;
@@ -214,6 +216,11 @@ pub fn small_company(date: u32, claims: &[u8], new_t: &[u64], old_t: &[u64], out
     unsafe {
         c::ltd_small_company(date, head(claims), claims.len(), head(new_t), new_t.len(), head(old_t), old_t.len(), head_mut(out), out.len())
     }
+}
+
+/// The claim due of a load, its record into `claim` (32 bytes) and the x reached into `x_out` (1 number).
+pub fn load_claim(x: u32, size: u32, number: u32, x_out: &mut [u32], claim: &mut [u8]) -> u8 {
+    unsafe { c::ltd_load_claim(x, size, number, head_mut(x_out), x_out.len(), head_mut(claim), claim.len()) }
 }
 
 /// The records of a block at the number due into `claims` (480 bytes): how many, or 2^32 + the number refused.

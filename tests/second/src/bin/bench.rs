@@ -4,7 +4,7 @@
 //! Prints four tables: the speed of the calls in memory, of the programs, and of `cat` as the floor; the shape of the cost; what the walk
 //! over a claim's months costs early and late in the calendar; and the calls that have a cost of their own.
 
-use second::block::claim_record;
+use second::block::{claim_record, BLOCK_LENGTH, CLAIM_LENGTH, RECORDS_LENGTH};
 use second::calendar::Date;
 use second::claim::{Claim, CLOSED, SETTLEMENT};
 use second::ffi;
@@ -14,6 +14,7 @@ use second::months::listing;
 use second::rates::{RateTable, MOST_CELLS};
 use second::report::{encode_rates, report};
 use second::run::{run_file, RUN_LENGTH};
+use second::shared_load;
 use second::study::{Study, STUDY_LENGTH};
 use second::valuation::{factor, reserve_limit, Limited, MOST_OPEN_CLAIMS};
 use std::env;
@@ -47,7 +48,7 @@ fn main() {
     let measured = speed(Path::new(&arguments[0]), &arguments[1], &arguments[2], count)
         .and_then(|()| shape(count))
         .and_then(|()| walk())
-        .and_then(|()| calls());
+        .and_then(|()| calls(count));
     if let Err(wrong) = measured {
         eprintln!("bench: {wrong}");
         exit(1);
@@ -63,7 +64,10 @@ struct Load {
 
 impl Load {
     fn new(count: usize, cells: usize, window: (Date, Date)) -> Load {
-        let (file, rates) = (claim_file(window, &claims(SEED, count, cells), None), rates(SEED, cells));
+        Load::of(claim_file(window, &claims(SEED, count, cells), None), rates(SEED, cells))
+    }
+
+    fn of(file: Vec<u8>, rates: Vec<u32>) -> Load {
         let numbers = run_file(&file, &rates).numbers();
         Load { file, rates, numbers }
     }
@@ -171,16 +175,20 @@ fn shape(count: usize) -> Result<(), String> {
         (count, MOST_CELLS, "nine years", NINE_YEARS),
     ];
     for (count, cells, years, window) in shapes {
-        let load = Load::new(count, cells, window);
-        let [engine, second] = best(TURNS, [&|| load.engine(), &|| load.second()])?;
-        let cost = |seconds: f64| {
-            let (claim, month) = (seconds * 1e9 / count as f64, seconds * 1e9 / load.months());
-            format!("{:.1} ms | {claim:.1} ns | {month:.2} ns", seconds * 1e3)
-        };
-        let [claims, cells, months] = [count as f64, cells as f64, load.months()].map(grouped);
-        let (engine_cost, second_cost) = (cost(engine), cost(second));
-        println!("| {claims} | {cells} | {years} | {months} | {engine_cost} | {second_cost} | {:.3} |", engine / second);
+        shape_row(count, cells, years, &Load::new(count, cells, window))?;
     }
+    shape_row(count, 1, "nine years, the drawn load", &Load::of(DrawnLoad::new(count).file, rates(SEED, 1)))
+}
+
+fn shape_row(count: usize, cells: usize, years: &str, load: &Load) -> Result<(), String> {
+    let [engine, second] = best(TURNS, [&|| load.engine(), &|| load.second()])?;
+    let cost = |seconds: f64| {
+        let (claim, month) = (seconds * 1e9 / count as f64, seconds * 1e9 / load.months());
+        format!("{:.1} ms | {claim:.1} ns | {month:.2} ns", seconds * 1e3)
+    };
+    let [claims, cells, months] = [count as f64, cells as f64, load.months()].map(grouped);
+    let (engine_cost, second_cost) = (cost(engine), cost(second));
+    println!("| {claims} | {cells} | {years} | {months} | {engine_cost} | {second_cost} | {:.3} |", engine / second);
     Ok(())
 }
 
@@ -256,7 +264,7 @@ fn walk() -> Result<(), String> {
 }
 
 /// Calls that have a cost of their own, beside the second implementation's.
-fn calls() -> Result<(), String> {
+fn calls(count: usize) -> Result<(), String> {
     println!("\n| call | engine | second | engine / second |");
     println!("|---|---|---|---|");
     let row = |call: &str, turns: usize, engine: &dyn Fn() -> Timed, second: &dyn Fn() -> Timed| {
@@ -265,7 +273,59 @@ fn calls() -> Result<(), String> {
         Ok::<(), String>(())
     };
     let limit = ReserveLimit::new();
-    row("the limit on reserves of 2,000 claims of 480 months", TURNS, &|| limit.engine(), &|| limit.second())
+    row("the limit on reserves of 2,000 claims of 480 months", TURNS, &|| limit.engine(), &|| limit.second())?;
+    let load = DrawnLoad::new(count);
+    let name = format!("a load of {} claims, drawn and written into blocks", grouped(count as f64));
+    row(&name, TURNS, &|| load.engine(), &|| load.second())
+}
+
+/// The load that anyone can rebuild, as a claim file.
+struct DrawnLoad {
+    size: u32,
+    file: Vec<u8>,
+}
+
+impl DrawnLoad {
+    const SEED: u32 = 1;
+
+    fn new(count: usize) -> DrawnLoad {
+        let size = count as u32;
+        let claims = shared_load::load(Self::SEED, size).expect("a seed and a size");
+        DrawnLoad { size, file: claim_file(NINE_YEARS, &claims, None) }
+    }
+
+    fn engine(&self) -> Timed {
+        let mut file = vec![0; self.file.len()];
+        let begin = Instant::now();
+        let (window, blocks) = file.split_at_mut(BLOCK_LENGTH);
+        ffi::write_window(NINE_YEARS.0.to_number(), NINE_YEARS.1.to_number(), window);
+        let (mut x, mut claim_numbers) = ([black_box(Self::SEED)], 1..=self.size);
+        for (number, block) in (1..).zip(blocks.chunks_exact_mut(BLOCK_LENGTH)) {
+            let (mut records, mut length) = ([0; RECORDS_LENGTH], 0);
+            for (record, claim_number) in records.chunks_exact_mut(CLAIM_LENGTH).zip(&mut claim_numbers) {
+                ffi::load_claim(x[0], self.size, claim_number, &mut x, record);
+                length += CLAIM_LENGTH;
+            }
+            ffi::write_block(number, &records[..length], block);
+        }
+        let seconds = begin.elapsed().as_secs_f64();
+        self.checked("the engine", &file, seconds)
+    }
+
+    fn second(&self) -> Timed {
+        let begin = Instant::now();
+        let load = DrawnLoad::new(black_box(self.size as usize));
+        let seconds = begin.elapsed().as_secs_f64();
+        self.checked("the second implementation", &load.file, seconds)
+    }
+
+    fn checked(&self, what: &str, file: &[u8], seconds: f64) -> Timed {
+        if file == self.file {
+            Ok(seconds)
+        } else {
+            Err(format!("{what} draws another load"))
+        }
+    }
 }
 
 /// Open claims of all cells and durations, and what the limit on their reserves gives.

@@ -14,6 +14,7 @@ mod file_runs;
 mod inputs;
 mod join;
 mod listing;
+mod loads;
 mod month_walk;
 mod one_input;
 mod open_and_add;
@@ -69,6 +70,7 @@ const SUBJECTS: &[&[Test]] = &[
     join::TESTS,
     pools::TESTS,
     small_company::TESTS,
+    loads::TESTS,
 ];
 
 fn main() {

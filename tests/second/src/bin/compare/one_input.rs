@@ -1,13 +1,14 @@
 //! Comparing both implementations on one input. Lists lent for writing hold a pattern before the call and may be longer than asked for, so
 //! that a number written past its place shows.
 
-use second::block::{claim_record, read_block, read_claim, read_records, write_records, write_window, Block, RECORDS_LENGTH};
+use second::block::{claim_record, read_block, read_claim, read_records, write_records, write_window, Block, CLAIM_LENGTH, RECORDS_LENGTH};
 use second::calendar::Date;
 use second::claim::Claim;
 use second::ffi;
 use second::months::listing;
 use second::rates::{prepare, RateTable};
 use second::run::{run_file, run_prepared_file, FileRun, RUN_LENGTH};
+use second::shared_load::load_claim;
 use second::small_company::{small_company, SmallCompany};
 use second::study::{Study, STUDY_LENGTH};
 use second::valuation::{factor, reserve_factor, reserve_limit, valuation_rate, wanted_count, Factor, Limited};
@@ -35,6 +36,7 @@ pub const BENEFIT: u8 = 16;
 pub const OPEN_CLAIMS: u8 = 17;
 pub const NOT_TAKEN: u8 = 18;
 pub const NO_SUCH_COUNT: u8 = 19;
+pub const LOAD: u8 = 20;
 /// A lent list has not the length or form asked for.
 pub const WRONG_FORM: u8 = 255;
 
@@ -439,6 +441,24 @@ pub fn compare_reserve_limit(
                 list(rates)
             )
         },
+    )
+}
+
+/// Draws a claim with both into lists of `lengths` items for x and the record; the answer and the first one's lists.
+pub fn compare_load_claim(x: u32, size: u32, number: u32, lengths: [usize; 2]) -> Result<(u8, Vec<u32>, Vec<u8>), String> {
+    compare_two_lent(
+        (&pattern(lengths[0]), &pattern(lengths[1])),
+        |x_out, claim| ffi::load_claim(x, size, number, x_out, claim),
+        |x_out, claim| {
+            let (Some(x_out), Some(record)) = (x_out.first_mut(), claim.first_chunk_mut::<CLAIM_LENGTH>()) else { return WRONG_FORM };
+            let drawn = load_claim(x, size, number);
+            if let Ok((claim, reached)) = drawn {
+                (*x_out, *record) = (reached, claim_record(&claim));
+            }
+            answer(&drawn)
+        },
+        EACH,
+        || format!("claim {number} of {size} from x {x}, lists of {lengths:?}"),
     )
 }
 
