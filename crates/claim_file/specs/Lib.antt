@@ -9,4 +9,6 @@ pub mod LentRuns
 pub mod Files
 pub mod RoundTrip
 pub mod OlderFiles
+pub mod Corrections
 pub mod Private
+pub mod Marks

@@ -1,0 +1,160 @@
+-- Document 02, request No. 1: corrected claims in the same file. Of all records with one claim number only the last in file order is studied.
+use Prim.Native.Nat.{ℕ, zero, suc, _+_, _*_, _/_, _%_, _<_, _≤_}
+use mathlib.Core.Path.{_≡_}
+use mathlib.Core.Bool.{Bool, true, false, _&&_, _||_}
+use mathlib.Core.List.{List, [], _∷_, _++_}
+use mathlib.Core.Logic.{_⊎_}
+use lib.ListN.{length, take, drop, getD}
+use lib.Dec.{leb, ltb, eqb}
+use Rattle.basics.specs.Pick.{pick}
+use Rattle.basics.specs.Checks.{refuse-block, refuse-too-many-records}
+use Rattle.claim_months.specs.declared.Claim.{Claim}
+use Rattle.claim_months.specs.Windows.{Parts, total, EveryPart}
+use Rattle.study.specs.declared.Study.{Study}
+use Rattle.study.specs.Sums.{plus}
+use Rattle.study.specs.Study.{fresh, firstDayAlone, opened, added}
+use Rattle.claim_file.specs.declared.WindowDates.{WindowDates}
+use Rattle.claim_file.specs.declared.FileRun.{FileRun}
+use Rattle.claim_file.specs.declared.CorrectedRun.{CorrectedRun}
+use Rattle.claim_file.specs.Bytes.{dateFrom}
+use Rattle.claim_file.specs.Block.{blockClaim, claimCount, blockSound, windowBytes, blockBytes}
+use Rattle.claim_file.specs.BlockAnswers.{noClaim}
+use Rattle.claim_file.specs.Run.{fileRun}
+use Rattle.claim_file.specs.Files.{Accepts, windowDays}
+use Rattle.claim_file.specs.RoundTrip.{AreBytes}
+
+-- The records of a file in file order, each with its block and its place there, from 1. The n records of a block from place k (from 0) on; those of
+-- the first n blocks, which have numbers from b on; and those of the whole file
+pub record PlacedClaim : Type 0 where
+  pub claim : Claim
+  pub block : ℕ
+  pub place : ℕ
+
+unfoldable pub recordsOfBlock : List ℕ → ℕ → ℕ → ℕ → List PlacedClaim
+recordsOfBlock bytes b k zero = []
+recordsOfBlock bytes b k (suc n) = record { claim = blockClaim bytes k; block = b; place = suc k } ∷ recordsOfBlock bytes b (suc k) n
+
+unfoldable pub recordsOfBlocks : List ℕ → ℕ → ℕ → List PlacedClaim
+recordsOfBlocks bytes b zero = []
+recordsOfBlocks bytes b (suc n) =
+    recordsOfBlock (take 512 bytes) b 0 (claimCount (take 512 bytes)) ++ recordsOfBlocks (drop 512 bytes) (suc b) n
+
+unfoldable pub fileRecords : List ℕ → List PlacedClaim
+fileRecords bytes = recordsOfBlocks bytes 0 (length bytes / 512)
+
+unfoldable pub claimsOf : List PlacedClaim → List Claim
+claimsOf [] = []
+claimsOf (r ∷ rs) = r .claim ∷ claimsOf rs
+
+unfoldable pub blocksOf : List PlacedClaim → List ℕ
+blocksOf [] = []
+blocksOf (r ∷ rs) = r .block ∷ blocksOf rs
+
+unfoldable pub placesOf : List PlacedClaim → List ℕ
+placesOf [] = []
+placesOf (r ∷ rs) = r .place ∷ placesOf rs
+
+-- how many of the n blocks of some bytes, from the number due on, are sound up to the first that isn't; a file of sound blocks: all of them,
+-- block 0 among them, and no part block at the end
+unfoldable pub soundBlocks : ℕ → List ℕ → ℕ → ℕ
+soundBlocks due bytes zero = 0
+soundBlocks due bytes (suc n) = pick (blockSound due (take 512 bytes)) (suc (soundBlocks (suc due) (drop 512 bytes) n)) 0
+
+unfoldable pub allSound : List ℕ → Bool
+allSound bytes =
+    eqb (soundBlocks 0 bytes (length bytes / 512)) (length bytes / 512) && eqb (length bytes % 512) 0 && ltb 0 (length bytes)
+
+-- a claim number stands in some records; of all records with one claim number the last in file order are kept
+unfoldable pub hasNumber : ℕ → List PlacedClaim → Bool
+hasNumber x [] = false
+hasNumber x (r ∷ rs) = eqb (r .claim .number) x || hasNumber x rs
+
+unfoldable pub lastOnes : List PlacedClaim → List PlacedClaim
+lastOnes [] = []
+lastOnes (r ∷ rs) = pick (hasNumber (r .claim .number) rs) (lastOnes rs) (r ∷ lastOnes rs)
+
+-- adding records to a study in order, up to the first refusal: its number, and the record's block and place
+unfoldable pub recordsAdded : List ℕ → Study → List PlacedClaim → CorrectedRun
+recordsAdded rates s [] = record { study = s; refused = 0; block = 0; place = 0 }
+recordsAdded rates s (r ∷ rs) =
+    let a = added s (r .claim) rates in
+    pick (eqb (a .refused) 0) (recordsAdded rates (a .study) rs)
+    (record { study = a .study; refused = a .refused; block = r .block; place = r .place })
+
+-- The run with corrections: every block, then the window, then the number of records, before any claim. No study is opened yet where a block or the
+-- window is refused
+unfoldable pub correctedRun : List ℕ → List ℕ → CorrectedRun
+correctedRun rates bytes =
+    let answer = opened (dateFrom bytes 16) (dateFrom bytes 20) in
+    pick (allSound bytes)
+    (pick (eqb (answer .refused) 0)
+    (pick (leb (length (fileRecords bytes)) 60000) (recordsAdded rates (answer .study) (lastOnes (fileRecords bytes)))
+    (record { study = answer .study; refused = refuse-too-many-records; block = 0; place = 0 }))
+    (record { study = answer .study; refused = answer .refused; block = 0; place = 0 }))
+    (record { study = fresh firstDayAlone; refused = refuse-block; block = soundBlocks 0 bytes (length bytes / 512); place = 0 })
+
+-- The struck file: the same blocks without the superseded records
+unfoldable pub inBlock : ℕ → List PlacedClaim → List Claim
+inBlock b [] = []
+inBlock b (r ∷ rs) = pick (eqb (r .block) b) (r .claim ∷ inBlock b rs) (inBlock b rs)
+
+unfoldable pub struckBlocks : List PlacedClaim → ℕ → ℕ → List ℕ
+struckBlocks kept b zero = []
+struckBlocks kept b (suc n) = blockBytes b (inBlock b kept) ++ struckBlocks kept (suc b) n
+
+unfoldable pub struckFile : List ℕ → List ℕ
+struckFile bytes = take 512 bytes ++ struckBlocks (lastOnes (fileRecords bytes)) 1 (length (drop 512 bytes) / 512)
+
+-- A plain run of a file and a run with corrections stop at the same record of their sequences of records: the same study and number, and where
+-- they refuse, the place of that record in each file
+pub record SameStop (plain : FileRun) (records : List PlacedClaim) (corrected : CorrectedRun) (kept : List PlacedClaim) : Type 0 where
+  pub study : plain .study ≡ corrected .study
+  pub number : plain .refused ≡ corrected .refused
+  pub stop : ((plain .refused ≡ 0) × (corrected .block ≡ 0) × (corrected .place ≡ 0))
+      ⊎ ((i : ℕ) × (i < length kept) × (i < length records)
+      × (plain .block ≡ getD (blocksOf records) i 0) × (corrected .block ≡ getD (blocksOf kept) i 0)
+      × (plain .place ≡ getD (placesOf records) i 0) × (corrected .place ≡ getD (placesOf kept) i 0)
+      × (getD (claimsOf records) i noClaim ≡ getD (claimsOf kept) i noClaim))
+
+-- or both refuse the window, at block 0 and before any claim
+pub record SameWindow (plain : FileRun) (corrected : CorrectedRun) : Type 0 where
+  pub study : plain .study ≡ corrected .study
+  pub number : plain .refused ≡ corrected .refused
+  pub stop : (plain .block ≡ 0) × (plain .place ≡ 0) × (corrected .block ≡ 0) × (corrected .place ≡ 0)
+
+-- of a file with all blocks sound and at most 60,000 records, and a sound window or not. `proofs/Struck.antt` proves it
+pub record StruckRuns : Type 0 where
+  -- the struck file has sound blocks, the same block 0, and the kept records, each in its block
+  pub sound : (bytes : List ℕ) → AreBytes bytes → allSound bytes ≡ true → allSound (struckFile bytes) ≡ true
+  pub block-0 : (bytes : List ℕ) → allSound bytes ≡ true → take 512 (struckFile bytes) ≡ take 512 bytes
+  pub claims : (bytes : List ℕ) → AreBytes bytes → allSound bytes ≡ true → claimsOf (fileRecords (struckFile bytes)) ≡ claimsOf (lastOnes (fileRecords bytes))
+  pub blocks : (bytes : List ℕ) → AreBytes bytes → allSound bytes ≡ true → blocksOf (fileRecords (struckFile bytes)) ≡ blocksOf (lastOnes (fileRecords bytes))
+  -- the plain run of any file with that block 0 and that sequence of records, the struck file among them
+  pub same : (rates bytes other : List ℕ) → allSound bytes ≡ true → length (fileRecords bytes) ≤ 60000 → allSound other ≡ true
+      → take 512 other ≡ take 512 bytes → claimsOf (fileRecords other) ≡ claimsOf (lastOnes (fileRecords bytes))
+      → opened (dateFrom bytes 16) (dateFrom bytes 20) .refused ≡ 0
+      → SameStop (fileRun rates other) (fileRecords other) (correctedRun rates bytes) (lastOnes (fileRecords bytes))
+  -- and where opening refuses the window
+  pub same-window : (rates bytes other : List ℕ) → allSound bytes ≡ true → allSound other ≡ true → take 512 other ≡ take 512 bytes
+      → (opened (dateFrom bytes 16) (dateFrom bytes 20) .refused ≡ 0 → ⊥) → SameWindow (fileRun rates other) (correctedRun rates bytes)
+
+-- Files that differ only in their window, with sound windows that cut one another: all corrected runs end under the same number, block and place,
+-- with as many claims taken, and their sums add up in both sets, whatever the bytes behind block 0. `proofs/CorrectedFiles.antt` proves it
+unfoldable pub correctedOf : List ℕ → List ℕ → WindowDates → CorrectedRun
+correctedOf rates rest w = correctedRun rates (windowBytes (w .first) (w .last) ++ rest)
+
+pub record SameCorrectedEnd (r s : CorrectedRun) : Type 0 where
+  pub number : r .refused ≡ s .refused
+  pub block : r .block ≡ s .block
+  pub place : r .place ≡ s .place
+  pub taken : r .study .taken ≡ s .study .taken
+
+pub record CorrectedAddUp (rates rest : List ℕ) (whole part : WindowDates) (parts : List WindowDates) : Type 0 where
+  pub same-end : EveryPart (λ w. SameCorrectedEnd (correctedOf rates rest w) (correctedOf rates rest whole)) part parts
+  pub sums : total plus (λ w. correctedOf rates rest w .study .sums) part parts ≡ correctedOf rates rest whole .study .sums
+  pub weighted : total plus (λ w. correctedOf rates rest w .study .weighted) part parts ≡ correctedOf rates rest whole .study .weighted
+
+abbrev pub CorrectedDemand3 : Type 0
+CorrectedDemand3 =
+    (rates rest : List ℕ) (whole part : WindowDates) (parts : List WindowDates) → Accepts whole
+    → Parts Accepts windowDays (windowDays whole .first .0) (windowDays whole .last .0) part parts → CorrectedAddUp rates rest whole part parts

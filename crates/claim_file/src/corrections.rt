@@ -1,0 +1,162 @@
+// The run with corrections (document 02, No. 1): every block is checked, then the window and the number of records, and then the records that no
+// later one corrects are added, in file order.
+ghost use mathlib.Core.Path.{_≡_};
+ghost use mathlib.Core.Bool.{true};
+ghost use Prim.Native.Nat.{_/_, _≤_};
+ghost use denote.Ref.{now};
+ghost use lib.ListN.{length};
+ghost use Rattle.claim_file.specs.Corrections.{fileRecords, soundBlocks, allSound, lastOnes, recordsAdded, correctedRun};
+ghost use Rattle.claim_file.specs.Marks.{numbersOf, MarksSuperseded, unlessSuperseded, unsoundAt};
+use crate::CorrectedRun;
+use crate::FileRun;
+use crate::blocks::claim_at;
+use crate::blocks::is_sound;
+use crate::bytes::date_at;
+use crate::superseded::is_marked;
+use crate::superseded::mark_superseded;
+use crate::superseded::record_count;
+use basics::refusal;
+use claim_months::Claim;
+use study::Study;
+
+// How many of a file's whole blocks are sound, up to the first that isn't.
+fn sound_blocks(file: &[u8]) -> u32
+    ensures { λ r. ⌜ r ≡ soundBlocks 0 (now (file .entry)) (length (now (file .entry)) / 512) ⌝ }
+{
+    let mut due: u32 = 0;
+    while (due as usize) < file.len() / 512 {
+        let at = 512 * due as usize;
+        if !is_sound(&file[at..at + 512], due) {
+            return due;
+        }
+        due += 1;
+    }
+    due
+}
+
+// A run refused at a block that isn't sound: no study is opened.
+fn unsound_at(block: u32) -> CorrectedRun
+    ensures { λ r. ⌜ r ≡ unsoundAt block ⌝ }
+{
+    let start = FileRun::start();
+    let study = start.study;
+    CorrectedRun {
+        study,
+        refused: refusal::BLOCK,
+        block,
+        place: 0,
+    }
+}
+
+// One record of a block added to a study, unless a later one corrects it.
+fn add_record(
+    rates: &[u32],
+    claim: Claim,
+    block: u32,
+    place: u8,
+    superseded: bool,
+    study: Study,
+) -> CorrectedRun
+    ensures { λ r. ⌜ r ≡ recordsAdded (now (rates .entry)) study (unlessSuperseded superseded claim block place) ⌝ }
+{
+    if superseded {
+        return CorrectedRun {
+            study,
+            refused: 0,
+            block: 0,
+            place: 0,
+        };
+    }
+    let answer = study.add(claim, rates);
+    let after = answer.study;
+    if answer.refused == 0 {
+        return CorrectedRun {
+            study: after,
+            refused: 0,
+            block: 0,
+            place: 0,
+        };
+    }
+    CorrectedRun {
+        study: after,
+        refused: answer.refused,
+        block,
+        place,
+    }
+}
+
+// The records that are not marked, added to a study up to the first refusal.
+fn add_kept(rates: &[u32], file: &[u8], marks: &[u8], study: Study) -> CorrectedRun
+    requires { ⌜ allSound (now file) ≡ true ⌝ }
+    requires { ⌜ length (fileRecords (now file)) ≤ 60000 ⌝ }
+    requires { ⌜ length (now marks) ≡ 7500 ⌝ }
+    requires { ⌜ MarksSuperseded (now marks) (numbersOf (fileRecords (now file))) ⌝ }
+    ensures { λ r. ⌜ r ≡ recordsAdded (now (rates .entry)) study (lastOnes (fileRecords (now (file .entry)))) ⌝ }
+{
+    let mut run = CorrectedRun {
+        study,
+        refused: 0,
+        block: 0,
+        place: 0,
+    };
+    let mut index = 0;
+    let mut block: u32 = 1;
+    'file: while (block as usize) < file.len() / 512 {
+        let at = 512 * block as usize;
+        let bytes = &file[at..at + 512];
+        let count = bytes[2];
+        let mut place = 0;
+        while place < count {
+            let so_far = run.study;
+            run = add_record(
+                rates,
+                claim_at(bytes, place),
+                block,
+                place + 1,
+                is_marked(marks, index),
+                so_far,
+            );
+            if run.refused != 0 {
+                break 'file;
+            }
+            index += 1;
+            place += 1;
+        }
+        block += 1;
+    }
+    run
+}
+
+// The run of a whole file with corrections.
+pub fn run_corrected(rates: &[u32], file: &[u8]) -> CorrectedRun
+    ensures { λ r. ⌜ r ≡ correctedRun (now (rates .entry)) (now (file .entry)) ⌝ }
+{
+    let sound = sound_blocks(file);
+    if sound == 0 {
+        return unsound_at(sound);
+    }
+    if 512 * sound as usize != file.len() {
+        return unsound_at(sound);
+    }
+    let answer = Study::open(date_at(file, 16), date_at(file, 20));
+    let study = answer.study;
+    if answer.refused != 0 {
+        return CorrectedRun {
+            study,
+            refused: answer.refused,
+            block: 0,
+            place: 0,
+        };
+    }
+    if record_count(file) > 60000 {
+        return CorrectedRun {
+            study,
+            refused: refusal::TOO_MANY_RECORDS,
+            block: 0,
+            place: 0,
+        };
+    }
+    let mut marks = [0; 7500];
+    mark_superseded(file, &mut marks);
+    add_kept(rates, file, &marks, study)
+}
