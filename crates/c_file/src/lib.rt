@@ -7,8 +7,9 @@ ghost use Rattle.rates.specs.declared.Kind.the-variants.{Prepared};
 ghost use Rattle.rates.specs.Prepared.{prepareCheck, prepareAfter};
 ghost use Rattle.claim_file.specs.Run.{fileRunWith, fileRun};
 ghost use Rattle.claim_file.specs.PreparedRuns.{addingWith};
+ghost use Rattle.claim_file.specs.Corrections.{correctedRun};
 ghost use Rattle.study_list.specs.Lent.{answered, stored};
-ghost use Rattle.c_file.specs.FileCalls.{runNumbers};
+ghost use Rattle.c_file.specs.FileCalls.{runNumbers, correctedNumbers};
 use claim_file::FileRun;
 use rates::Kind;
 use study_list::put_study;
@@ -55,4 +56,22 @@ pub extern "C" fn ltd_prepared_file_study(file: &[u8], table: &[u32], out: &mut 
     ensures { λ _. ⌜ now (out .exit) ≡ stored 86 (now (out .entry)) (sets (now (out .entry)) 0 (runNumbers (fileRunWith (addingWith Prepared (now (table .entry))) (now (file .entry))))) ⌝ }
 {
     put_run(claim_file::run::run_with(Kind::Prepared, table, file), out)
+}
+
+// The study of a whole claim file with corrections.
+#[no_mangle]
+pub extern "C" fn ltd_corrected_study(file: &[u8], rates: &[u32], out: &mut [i64]) -> u8
+    ensures { λ r. ⌜ r ≡ answered 86 (now (out .entry)) (correctedRun (now (rates .entry)) (now (file .entry)) .refused) ⌝ }
+    ensures { λ _. ⌜ now (out .exit) ≡ stored 86 (now (out .entry)) (sets (now (out .entry)) 0 (correctedNumbers (correctedRun (now (rates .entry)) (now (file .entry))))) ⌝ }
+{
+    let run = claim_file::corrections::run_corrected(rates, file);
+    let study = run.study;
+    let stored = FileRun {
+        study,
+        due: 0,
+        refused: run.refused,
+        block: run.block,
+        place: run.place,
+    };
+    put_run(stored, out)
 }
