@@ -3,12 +3,15 @@
 // g a claim refused in the middle of the third block after fifteen in the second, h a part block at the end, i blocks of 15, 0 and
 // 1 claims, j a bad check, k a byte not zero in a claim, its 25, l one past the claims, m one before byte 16, n count 16, o a number right
 // in its low byte only, p block 0 alone, q a month of -1 thirtieths, r block 0 with a count, s block 0 with a byte not zero past
-// the window, t to w claims refused 2, 3, 5 and 7, x a claim in cell 256, y claims with benefits of 200, 0 and 201, the last refused 16.
+// the window, t to w claims refused 2, 3, 5 and 7, x a claim in cell 256, y claims with benefits of 200, 0 and 201, the last refused 16,
+// z a claim corrected in its block and one in the next block, each refused as it stood first, and a claim refused behind them.
 use claim_file::Block;
+use claim_file::CorrectedRun;
 use claim_file::FileRun;
 use claim_file::MaybeDates;
 use claim_file::WindowDates;
 use claim_file::blocks;
+use claim_file::corrections::run_corrected;
 use claim_file::run::run_file;
 use claim_months::Claim;
 use study::Study;
@@ -60,16 +63,25 @@ fn put_study(study: Study) {
 }
 
 // The number refused, block and place, and the study.
-fn put_run(run: FileRun) {
-    put_next(run.refused as u64);
-    put_next(run.block as u64);
-    put_next(run.place as u64);
-    let study = run.study;
+fn put_outcome(refused: u8, block: u32, place: u8, study: Study) {
+    put_next(refused as u64);
+    put_next(block as u64);
+    put_next(place as u64);
     put_study(study);
 }
 
-// The run of a whole file.
-fn put_file(letter: u8, table: &[u32]) {
+fn put_run(run: FileRun) {
+    let study = run.study;
+    put_outcome(run.refused, run.block, run.place, study);
+}
+
+fn put_corrected_run(run: CorrectedRun) {
+    let study = run.study;
+    put_outcome(run.refused, run.block, run.place, study);
+}
+
+// The run of a whole file, with corrections or without.
+fn put_file_with(corrections: bool, letter: u8, table: &[u32]) {
     let name = [letter];
     let mut bytes = [0u8; 2048];
     let fd = os::open_read(&name);
@@ -80,7 +92,15 @@ fn put_file(letter: u8, table: &[u32]) {
     let n = io::read_full(fd, &mut bytes);
     libc::close(fd);
     put(&name);
-    put_run(run_file(table, &bytes[..n]));
+    if corrections {
+        put_corrected_run(run_corrected(table, &bytes[..n]));
+    } else {
+        put_run(run_file(table, &bytes[..n]));
+    }
+}
+
+fn put_file(letter: u8, table: &[u32]) {
+    put_file_with(false, letter, table);
 }
 
 fn put_files(table: &[u32]) {
@@ -248,6 +268,16 @@ fn put_all_pieces(table: &[u32]) {
     put_pieces(b'i', true, table);
 }
 
+// Runs with corrections, and the same file without.
+fn put_corrections(table: &[u32]) {
+    put_file(b'z', table);
+    put_file_with(true, b'z', table);
+    put_file_with(true, b'a', table);
+    put_file_with(true, b'b', table);
+    put_file_with(true, b'e', table);
+    put_file_with(true, b'h', table);
+}
+
 fn main() {
     let one = flat();
     put_files(&one[0..958]);
@@ -261,4 +291,5 @@ fn main() {
     put_blocks(b'x');
     put_blocks(b'y');
     put_wide(&mut [0u32; 246206]);
+    put_corrections(&one[0..958]);
 }
