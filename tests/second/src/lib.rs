@@ -41,6 +41,7 @@ pub enum Refusal {
     Block = 11,
     Valuation = 12,
     Discount = 13,
+    Records = 14,
     OtherWindow = 15,
     Benefit = 16,
     OpenClaims = 17,

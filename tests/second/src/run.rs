@@ -1,12 +1,17 @@
-//! Claim file: the run over a whole file.
+//! Claim file: the run over a whole file, and over one with corrections.
 
 use crate::block::{read_block, Block, BLOCK_LENGTH};
+use crate::claim::Claim;
 use crate::rates::{PreparedTable, RateTable, Rates};
 use crate::study::{Study, STUDY_LENGTH};
 use crate::Refusal;
+use std::collections::HashMap;
 
 /// The numbers of a file run as a list.
 pub const RUN_LENGTH: usize = 3 + STUDY_LENGTH;
+
+/// The most claim records of a file with corrections.
+pub const MOST_RECORDS: usize = 60_000;
 
 /// What a file run gives: 0 for number, block and place if not refused, and the study (so far).
 #[derive(Clone, Copy, Debug, PartialEq, Eq)]
@@ -30,14 +35,51 @@ pub fn run_prepared_file(file: &[u8], table: &[u32]) -> FileRun {
 
 /// Runs blocks as they come, and asks for none after the first refusal.
 pub fn run_blocks<B: AsRef<[u8]>>(blocks: impl Iterator<Item = B>, rates: &impl Rates) -> FileRun {
+    run(|study| take_blocks(blocks, rates, study))
+}
+
+/// Runs a file in which a later record corrects the earlier ones with its claim number: only the last in file order is studied.
+pub fn run_corrected_file(file: &[u8], rates: &[u32]) -> FileRun {
+    run(|study| take_corrected(file, &RateTable::new(rates), study))
+}
+
+/// A refusal, its block and its claim's place.
+type Stop = (Refusal, u32, u32);
+
+fn run(take: impl FnOnce(&mut Study) -> Result<(), Stop>) -> FileRun {
     let mut study = Study::unopened();
-    match take_blocks(blocks, rates, &mut study) {
+    match take(&mut study) {
         Ok(()) => FileRun { refused: 0, block: 0, place: 0, study },
         Err((refusal, block, place)) => FileRun { refused: refusal.number(), block, place, study },
     }
 }
 
-fn take_blocks<B: AsRef<[u8]>>(blocks: impl Iterator<Item = B>, rates: &impl Rates, study: &mut Study) -> Result<(), (Refusal, u32, u32)> {
+/// Checks every block, then the window, then the number of records (14), and then adds the claims that no later record corrects.
+fn take_corrected(file: &[u8], rates: &impl Rates, study: &mut Study) -> Result<(), Stop> {
+    let mut window = None;
+    let mut records: Vec<(Claim, u32, u32)> = Vec::new();
+    for (due, bytes) in (0..).zip(file.chunks(BLOCK_LENGTH)) {
+        match read_block(bytes, due).map_err(|refusal| (refusal, due, 0))? {
+            Block::Window(first, last) => window = Some((first, last)),
+            Block::Claims(block) => records.extend((1..).zip(&block.claims[..block.count]).map(|(place, claim)| (*claim, due, place))),
+        }
+    }
+    let (first, last) = window.ok_or((Refusal::Block, 0, 0))?;
+    *study = Study::open(first, last).map_err(|refusal| (refusal, 0, 0))?;
+    if records.len() > MOST_RECORDS {
+        return Err((Refusal::Records, 0, 0));
+    }
+
+    let last_of: HashMap<u32, usize> = records.iter().enumerate().map(|(i, (claim, ..))| (claim.number, i)).collect();
+    for (i, (claim, block, place)) in records.iter().enumerate() {
+        if last_of[&claim.number] == i {
+            study.add(claim, rates).map_err(|refusal| (refusal, *block, *place))?;
+        }
+    }
+    Ok(())
+}
+
+fn take_blocks<B: AsRef<[u8]>>(blocks: impl Iterator<Item = B>, rates: &impl Rates, study: &mut Study) -> Result<(), Stop> {
     let mut due = 0;
     for bytes in blocks {
         match read_block(bytes.as_ref(), due).map_err(|refusal| (refusal, due, 0))? {

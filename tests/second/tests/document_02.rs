@@ -4,12 +4,12 @@ use second::block::{claim_record, read_block, read_claim, Block};
 use second::calendar::{Date, Day};
 use second::claim::{Claim, Duration, CHANGE_OF_DEFINITION, CLOSED, DEATH, MAX_OUT, RECOVERY, SETTLEMENT};
 use second::examples::{closed_claim, date, day, flat_rates, open_claim, rows_in, STUDY_WINDOW};
-use second::generate::{claim_file, sound_claim, sound_rates, sound_window};
+use second::generate::{claim_file, damage_claim, sound_claim, sound_rates, sound_window};
 use second::months::Window;
 use second::rates::{RateTable, Rates, RatesByDuration, CELL_LENGTH};
 use second::report::{decode_rates, report};
 use second::rng::Rng;
-use second::run::run_file;
+use second::run::{run_corrected_file, run_file, FileRun};
 use second::shared_load::{load, load_claim};
 use second::small_company::{small_company, SmallCompany};
 use second::study::{duration_group, GroupSums, Study};
@@ -750,6 +750,122 @@ fn another_seed_size_or_number_is_refused() {
         assert_eq!(refused(1, size, number), Some(20));
     }
     assert_eq!(load(1, 0), Ok(vec![]));
+}
+
+// No. 1: corrected claims in the same file.
+
+/// Number, block, place and claims taken.
+fn outcome(run: &FileRun) -> (u8, u32, u32, u32) {
+    (run.refused, run.block, run.place, run.study.claims_taken)
+}
+
+/// The claims that no later one with their number corrects, with their places in the list.
+fn kept(claims: &[Claim]) -> Vec<(usize, Claim)> {
+    let corrected = |i: usize| claims[i + 1..].iter().any(|later| later.number == claims[i].number);
+    claims.iter().copied().enumerate().filter(|&(i, _)| !corrected(i)).collect()
+}
+
+#[test]
+fn only_the_last_record_of_a_claim_number_is_studied() {
+    let rates = flat_rates(10_000, 5_000);
+    let claim = |number: u32| Claim { number, ..closed_claim("2009-06-11", "2012-04-29", RECOVERY) };
+    let settled = |number: u32| Claim { code: SETTLEMENT, ..claim(number) };
+    // Once in its block and once in a later one; the number of a block's claim corrected in the block after.
+    let mut claims: Vec<Claim> = (1..=20).map(claim).collect();
+    claims.extend([settled(20), settled(3)]);
+    let run = run_corrected_file(&claim_file(STUDY_WINDOW, &claims, None), &rates);
+    assert_eq!((outcome(&run), run.study.groups[2].closings), ((0, 0, 0, 20), [18, 0, 2, 0, 0]));
+    // A run without corrections takes them all.
+    assert_eq!(outcome(&run_file(&claim_file(STUDY_WINDOW, &claims, None), &rates)), (0, 0, 0, 22));
+    // An earlier record is not checked beyond its block; a later one is, and its own place is named.
+    claims[2] = Claim { status: 9, bcd: Date::MISSING, ..claim(3) };
+    assert_eq!(run_corrected_file(&claim_file(STUDY_WINDOW, &claims, None), &rates).study, run.study);
+    claims[21] = Claim { code: 7, ..claim(3) };
+    assert_eq!(outcome(&run_corrected_file(&claim_file(STUDY_WINDOW, &claims, None), &rates)), (3, 2, 7, 19));
+}
+
+#[test]
+fn blocks_are_checked_before_the_window_and_the_window_before_the_number_of_records() {
+    let rates = flat_rates(10_000, 5_000);
+    let (first, last) = STUDY_WINDOW;
+    let bad_claims: Vec<Claim> = (1..=16).map(|number| Claim { number, status: 9, ..open_claim("2011-02-10") }).collect();
+    for (window, refused) in [(STUDY_WINDOW, (3, 1, 1, 0)), ((last, first), (1, 0, 0, 0))] {
+        let mut file = claim_file(window, &bad_claims, None);
+        assert_eq!(outcome(&run_corrected_file(&file, &rates)), refused);
+        // The study of 1950-01-01 alone with every fault of a block, wherever it is.
+        for (length, due) in [(0, 0), (511, 0), (513, 1), (1_535, 2)] {
+            let run = run_corrected_file(&file[..length], &rates);
+            assert_eq!((outcome(&run), run.study), ((11, due, 0, 0), Study::unopened()));
+        }
+        file[1_024 + 40] ^= 1;
+        let run = run_corrected_file(&file, &rates);
+        assert_eq!((outcome(&run), run.study), ((11, 2, 0, 0), Study::unopened()));
+    }
+    assert_eq!(run_corrected_file(&claim_file((last, first), &[], None), &rates).study, Study::unopened());
+}
+
+#[test]
+fn a_file_with_corrections_has_at_most_60_000_records() {
+    let (rates, claim) = (flat_rates(0, 0), closed_claim("2001-02-10", "2001-02-10", RECOVERY));
+    let opened = Study::open(STUDY_WINDOW.0, STUDY_WINDOW.1).unwrap();
+    for numbers in [1, 7, 60_001] {
+        let claims: Vec<Claim> = (0..60_001).map(|i| Claim { number: i % numbers, ..claim }).collect();
+        let run = |count: usize| run_corrected_file(&claim_file(STUDY_WINDOW, &claims[..count], None), &rates);
+        assert_eq!(outcome(&run(60_000)), (0, 0, 0, numbers.min(60_000)));
+        assert_eq!((outcome(&run(60_001)), run(60_001).study), ((14, 0, 0, 0), opened));
+        // After the window, and before any claim and the table.
+        let bad: Vec<Claim> = claims.iter().map(|claim| Claim { status: 9, ..*claim }).collect();
+        assert_eq!(outcome(&run_corrected_file(&claim_file(STUDY_WINDOW, &bad, None), &[])), (14, 0, 0, 0));
+        assert_eq!(outcome(&run_corrected_file(&claim_file((STUDY_WINDOW.1, STUDY_WINDOW.0), &bad, None), &[])), (1, 0, 0, 0));
+        let mut damaged = claim_file((STUDY_WINDOW.1, STUDY_WINDOW.0), &bad, None);
+        damaged.push(0);
+        assert_eq!(outcome(&run_corrected_file(&damaged, &[])), (11, 4_002, 0, 0));
+        assert_eq!(run_file(&claim_file(STUDY_WINDOW, &claims, None), &rates).study.claims_taken, 60_001);
+    }
+}
+
+/// The result is that of a file from which the earlier records were struck, save a refusal's place; and the parts total the whole.
+#[test]
+fn a_corrected_run_is_the_run_over_the_struck_file() {
+    let mut rng = Rng::new(111);
+    let mut refused = 0;
+    for _ in 0..400 {
+        let rates = sound_rates(&mut rng, 4);
+        let numbers = rng.pick(&[1, 5, 30, 1_000]);
+        let mut claims: Vec<Claim> =
+            (0..rng.range(1, 60)).map(|_| Claim { number: rng.below(numbers) as u32, ..sound_claim(&mut rng) }).collect();
+        let window = sound_window(&mut rng, &claims[0]);
+        for claim in &mut claims {
+            if rng.one_in(20) {
+                let number = claim.number;
+                damage_claim(&mut rng, claim);
+                claim.number = number;
+            }
+        }
+        let kept = kept(&claims);
+        let struck: Vec<Claim> = kept.iter().map(|(_, claim)| *claim).collect();
+        let wanted = run_file(&claim_file(window, &struck, None), &rates);
+        let run = run_corrected_file(&claim_file(window, &claims, None), &rates);
+        assert_eq!((run.refused, run.study), (wanted.refused, wanted.study));
+        if run.refused != 0 {
+            let (original, _) = kept[(wanted.block as usize - 1) * 15 + wanted.place as usize - 1];
+            assert_eq!((run.block as usize, run.place as usize), (original / 15 + 1, original % 15 + 1));
+            refused += 1;
+            continue;
+        }
+        let [first, last] = [window.0, window.1].map(|date| date.day_number().unwrap());
+        let cut = Day(rng.range(first.0 as i64, last.0 as i64) as i32);
+        let part =
+            |first: Day, last: Day| run_corrected_file(&claim_file((first.date(), last.date()), &claims, None), &rates).study.numbers();
+        let (whole, mut parts) = (run.study.numbers(), vec![part(first, cut)]);
+        if cut < last {
+            parts.push(part(cut + 1, last));
+        }
+        for place in 3..whole.len() {
+            assert_eq!(whole[place], parts.iter().map(|part| part[place]).sum::<i64>());
+        }
+    }
+    assert!((40..360).contains(&refused), "{refused}");
 }
 
 // No. 9: the 1.30 limit judged on reserves.
