@@ -76,6 +76,13 @@ uint8_t ltd_prepare(uint32_t *table, size_t table_len);
    that the table is not a prepared one. 255 if out is shorter than 86. */
 uint8_t ltd_prepared_file_study(const uint8_t *file, size_t file_len, const uint32_t *table, size_t table_len, int64_t *out, size_t out_len);
 
+/* The study of a whole claim file in which a later record corrects the earlier ones with its claim number: as ltd_file_study, but of each
+   number only the last record in file order is added, and earlier ones are not checked beyond their block. First every block is checked
+   (11), then the window (1), both with the study of 1950-01-01 alone, then the number of records: 14 at block 0, place 0, with the fresh
+   study of that window, if the file has more than 60,000, corrected ones included. A claim's refusal names its place in this file. 255 if
+   out is shorter than 86. */
+uint8_t ltd_corrected_study(const uint8_t *file, size_t file_len, const uint32_t *rates, size_t rates_len, int64_t *out, size_t out_len);
+
 /* z, m and T of a group into out (3 numbers), T without any ceiling. Answers 0, or 12. 255 if out is shorter than 3. */
 uint8_t ltd_factor(uint8_t group, uint32_t terminations, int64_t expected, uint64_t *out, size_t out_len);
 

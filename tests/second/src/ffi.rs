@@ -40,6 +40,15 @@ mod c {
             out_len: usize,
         ) -> u8;
 
+        pub fn ltd_corrected_study(
+            file: *const u8,
+            file_len: usize,
+            rates: *const u32,
+            rates_len: usize,
+            out: *mut i64,
+            out_len: usize,
+        ) -> u8;
+
         pub fn ltd_factor(group: u8, terminations: u32, expected: i64, out: *mut u64, out_len: usize) -> u8;
 
         pub fn ltd_wanted_count(group: u8, expected: i64, wanted: u64) -> u64;
@@ -159,6 +168,11 @@ pub fn prepare(table: &mut [u32]) -> u8 {
 /// The study of a whole claim file with a prepared table into `out` (86 numbers).
 pub fn prepared_file_study(file: &[u8], table: &[u32], out: &mut [i64]) -> u8 {
     unsafe { c::ltd_prepared_file_study(head(file), file.len(), head(table), table.len(), head_mut(out), out.len()) }
+}
+
+/// The study of a whole claim file with corrections into `out` (86 numbers).
+pub fn corrected_study(file: &[u8], rates: &[u32], out: &mut [i64]) -> u8 {
+    unsafe { c::ltd_corrected_study(head(file), file.len(), head(rates), rates.len(), head_mut(out), out.len()) }
 }
 
 /// z, m and T into `out` (3 numbers).

@@ -1,8 +1,8 @@
 //! Measures the engine beside the second implementation: bench DIR PROGRAM SECOND_PROGRAM [CLAIMS]. What is compared takes turns over one
 //! claim file, and the best of five turns counts. The load stays in DIR as claims.bin and rates.bin.
 //!
-//! Prints four tables: the speed of the calls in memory, of the programs, and of `cat` as the floor; the shape of the cost; what the walk
-//! over a claim's months costs early and late in the calendar; and the calls that have a cost of their own.
+//! Prints five tables: the speed of the calls in memory, of the programs, and of `cat` as the floor; the shape of the cost; what the walk
+//! over a claim's months costs early and late in the calendar; the calls that have a cost of their own; and what corrections cost.
 
 use second::block::{claim_record, BLOCK_LENGTH, CLAIM_LENGTH, RECORDS_LENGTH};
 use second::calendar::Date;
@@ -13,7 +13,7 @@ use second::load::{claims, rates, NINE_YEARS};
 use second::months::listing;
 use second::rates::{RateTable, MOST_CELLS};
 use second::report::{encode_rates, report};
-use second::run::{run_file, RUN_LENGTH};
+use second::run::{run_corrected_file, run_file, MOST_RECORDS, RUN_LENGTH};
 use second::shared_load;
 use second::study::{Study, STUDY_LENGTH};
 use second::valuation::{factor, reserve_limit, Limited, MOST_OPEN_CLAIMS};
@@ -48,7 +48,8 @@ fn main() {
     let measured = speed(Path::new(&arguments[0]), &arguments[1], &arguments[2], count)
         .and_then(|()| shape(count))
         .and_then(|()| walk())
-        .and_then(|()| calls(count));
+        .and_then(|()| calls(count))
+        .and_then(|()| corrections());
     if let Err(wrong) = measured {
         eprintln!("bench: {wrong}");
         exit(1);
@@ -368,6 +369,60 @@ impl ReserveLimit {
             Err(format!("the limit on reserves gave {limited:?} for {:?}", self.limited))
         }
     }
+}
+
+/// A file with as many records as one with corrections may have, run with them and without.
+struct Corrected {
+    file: Vec<u8>,
+    rates: Vec<u32>,
+}
+
+impl Corrected {
+    fn new(number: impl Fn(u32) -> u32) -> Corrected {
+        let claims: Vec<Claim> =
+            claims(SEED, MOST_RECORDS, CELLS).iter().map(|claim| Claim { number: number(claim.number), ..*claim }).collect();
+        Corrected { file: claim_file(NINE_YEARS, &claims, None), rates: rates(SEED, CELLS) }
+    }
+
+    fn engine(&self, run: fn(&[u8], &[u32], &mut [i64]) -> u8, wanted: &[i64; RUN_LENGTH]) -> Timed {
+        let mut out = [0; RUN_LENGTH];
+        let begin = Instant::now();
+        run(black_box(&self.file), black_box(&self.rates), &mut out);
+        let seconds = begin.elapsed().as_secs_f64();
+        if out == *wanted && out[0] == 0 {
+            Ok(seconds)
+        } else {
+            Err(format!("a file with corrections gave {out:?} for {wanted:?}"))
+        }
+    }
+
+    fn second(&self) -> Timed {
+        let begin = Instant::now();
+        black_box(run_corrected_file(black_box(&self.file), black_box(&self.rates)));
+        Ok(begin.elapsed().as_secs_f64())
+    }
+}
+
+fn corrections() -> Result<(), String> {
+    println!(
+        "\n| {} records | the engine, corrected | plain | corrected / plain (at most 5) | second, corrected |",
+        grouped(MOST_RECORDS as f64)
+    );
+    println!("|---|---|---|---|---|");
+    let row = |what: &str, load: Corrected| {
+        let corrected = run_corrected_file(&load.file, &load.rates).numbers();
+        let plain = run_file(&load.file, &load.rates).numbers();
+        let runs: [&dyn Fn() -> Timed; 3] =
+            [&|| load.engine(ffi::corrected_study, &corrected), &|| load.engine(ffi::file_study, &plain), &|| load.second()];
+        let [corrected, plain, second] = best(TURNS, runs)?;
+        println!("| {what} | {:.2} ms | {:.2} ms | {:.3} | {:.2} ms |", corrected * 1e3, plain * 1e3, corrected / plain, second * 1e3);
+        Ok(())
+    };
+    row("all numbers different, rising", Corrected::new(|number| number))?;
+    row("all numbers different, falling", Corrected::new(|number| MOST_RECORDS as u32 - number))?;
+    // An odd factor keeps them different.
+    row("all numbers different, in no order", Corrected::new(|number| number.wrapping_mul(0x9e37_79b1)))?;
+    row("one number", Corrected::new(|_| 1))
 }
 
 /// A whole number with its thousands apart.

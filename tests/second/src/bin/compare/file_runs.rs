@@ -144,7 +144,7 @@ fn check_order(rng: &mut Rng) -> Outcome {
 }
 
 /// The first implementation's numbers alone, of a file too long to show.
-fn first_run(run: FirstRun, file: &[u8], table: &[u32]) -> [i64; RUN_LENGTH] {
+pub fn first_run(run: FirstRun, file: &[u8], table: &[u32]) -> [i64; RUN_LENGTH] {
     let mut out = [0; RUN_LENGTH];
     run(file, table, &mut out);
     out

@@ -8,6 +8,7 @@ mod benefits;
 mod blocks;
 mod cells;
 mod codes;
+mod corrections;
 mod faults;
 mod figures;
 mod file_runs;
@@ -71,6 +72,7 @@ const SUBJECTS: &[&[Test]] = &[
     pools::TESTS,
     small_company::TESTS,
     loads::TESTS,
+    corrections::TESTS,
 ];
 
 fn main() {

@@ -7,7 +7,7 @@ use second::claim::Claim;
 use second::ffi;
 use second::months::listing;
 use second::rates::{prepare, RateTable};
-use second::run::{run_file, run_prepared_file, FileRun, RUN_LENGTH};
+use second::run::{run_corrected_file, run_file, run_prepared_file, FileRun, RUN_LENGTH};
 use second::shared_load::load_claim;
 use second::small_company::{small_company, SmallCompany};
 use second::study::{Study, STUDY_LENGTH};
@@ -31,6 +31,7 @@ pub const SHORT_LIST: u8 = 10;
 pub const BLOCK: u8 = 11;
 pub const VALUATION: u8 = 12;
 pub const DISCOUNT: u8 = 13;
+pub const RECORDS: u8 = 14;
 pub const OTHER_WINDOW: u8 = 15;
 pub const BENEFIT: u8 = 16;
 pub const OPEN_CLAIMS: u8 = 17;
@@ -226,6 +227,11 @@ pub fn compare_plain_run(file: &[u8], rates: &[u32]) -> Result<[i64; RUN_LENGTH]
 /// With a prepared table, or any other list.
 pub fn compare_prepared_run(file: &[u8], table: &[u32]) -> Result<[i64; RUN_LENGTH], String> {
     compare_runs(file, table, ffi::prepared_file_study, run_prepared_file)
+}
+
+/// The run over a file with corrections.
+pub fn compare_corrected_run(file: &[u8], rates: &[u32]) -> Result<[i64; RUN_LENGTH], String> {
+    compare_runs(file, rates, ffi::corrected_study, run_corrected_file)
 }
 
 /// The study of a file with rates or a prepared table.
