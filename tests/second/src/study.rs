@@ -170,8 +170,8 @@ impl Study {
         Ok(())
     }
 
-    /// Takes a claim back. Checks as adding, save that 500,000 claims may be taken; then 18: no claims taken, or a closing count or a weighted
-    /// closing sum that would fall below zero. A refused claim leaves the study as it was.
+    /// Takes a claim back. Checks as adding, save that 500,000 claims may be taken; then 18: no claims taken, or a closing count or a
+    /// weighted closing sum that would fall below zero. A refused claim leaves the study as it was.
     pub fn withdraw<R: Rates>(&mut self, claim: &Claim, rates: &R) -> Result<(), Refusal> {
         let (claim, cell) = self.check_claim(claim, rates)?;
         self.check_room(MOST_CLAIMS)?;

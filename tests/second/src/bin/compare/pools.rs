@@ -5,7 +5,6 @@ use crate::join::study_of;
 use crate::one_input::{compare_join, compare_open, same, FULL};
 use crate::{test, Outcome, Test};
 use second::calendar::{Date, Day};
-use second::claim::Claim;
 use second::generate::{sound_rates, sound_window};
 use second::rng::Rng;
 use second::study::{MOST_CLAIMS, STUDY_LENGTH};
@@ -60,27 +59,36 @@ fn fresh((first, last): (Date, Date)) -> Result<Vec<i64>, String> {
     Ok(compare_open(first, last, STUDY_LENGTH)?.1)
 }
 
-/// A window for some claims, their studies in groups of any size, and that of all of them.
-fn offices(rng: &mut Rng, most: u64) -> Result<((Date, Date), Vec<Vec<i64>>, Vec<i64>), String> {
-    let rates = sound_rates(rng, 4);
-    let about = sound_claims(rng, 1, 4)[0];
-    let window = sound_window(rng, &about);
-    let (mut studies, mut all) = (Vec::new(), vec![about]);
-    studies.push(study_of(rng, window, &[about], &rates)?);
-    for _ in 0..rng.below(most) {
-        let count = rng.below(5) as usize;
-        let claims: Vec<Claim> = sound_claims(rng, count, 4);
-        studies.push(study_of(rng, window, &claims, &rates)?);
-        all.extend(claims);
+/// Offices whose claims are studied in one window with one table.
+struct Offices {
+    window: (Date, Date),
+    studies: Vec<Vec<i64>>,
+    /// The study of all claims.
+    whole: Vec<i64>,
+}
+
+impl Offices {
+    /// Of any size, one at least.
+    fn new(rng: &mut Rng, most: u64) -> Result<Offices, String> {
+        let rates = sound_rates(rng, 4);
+        let mut all = sound_claims(rng, 1, 4);
+        let window = sound_window(rng, &all[0]);
+        let mut studies = vec![study_of(rng, window, &all, &rates)?];
+        for _ in 0..rng.below(most) {
+            let count = rng.below(5) as usize;
+            let claims = sound_claims(rng, count, 4);
+            studies.push(study_of(rng, window, &claims, &rates)?);
+            all.extend(claims);
+        }
+        let whole = study_of(rng, window, &all, &rates)?;
+        Ok(Offices { window, studies, whole })
     }
-    let whole = study_of(rng, window, &all, &rates)?;
-    Ok((window, studies, whole))
 }
 
 fn trees(rng: &mut Rng) -> Outcome {
     let mut n = 0;
     for _ in 0..1_200 {
-        let (window, studies, whole) = offices(rng, 10)?;
+        let Offices { window, studies, whole } = Offices::new(rng, 10)?;
         for tree in TREES.repeat(3) {
             let mut studies = studies.clone();
             for _ in 0..rng.below(4) {
@@ -99,7 +107,7 @@ fn trees(rng: &mut Rng) -> Outcome {
 fn regions_and_lines(rng: &mut Rng) -> Outcome {
     let mut n = 0;
     for _ in 0..300 {
-        let (window, mut studies, whole) = offices(rng, 16)?;
+        let Offices { window, mut studies, whole } = Offices::new(rng, 16)?;
         let columns = rng.range(1, 5) as usize;
         while studies.len() % columns != 0 {
             studies.push(fresh(window)?);
