@@ -62,11 +62,6 @@ uint64_t ltd_listing(uint32_t first, uint32_t last, const uint8_t *claim, size_t
    numbers of the study. 255 if out is shorter than 86. */
 uint8_t ltd_file_study(const uint8_t *file, size_t file_len, const uint32_t *rates, size_t rates_len, int64_t *out, size_t out_len);
 
-/* The study of a whole claim file with corrections (document 02, No. 1): of all records with one claim number only the last is studied. As
-   ltd_file_study, but every block is checked before the window (11 at that block), and the window before any claim; 14 at block 0, claim 0
-   with the fresh study of the window if the file has more than 60,000 records. A refusal's place is the one in the file as lent. */
-uint8_t ltd_corrected_study(const uint8_t *file, size_t file_len, const uint32_t *rates, size_t rates_len, int64_t *out, size_t out_len);
-
 /* Prepares a table of 958 x n + 1 numbers in place, n 1 to 1,024, the last one 0: the rates of each cell that is sound are replaced by their
    running sums, an unsound cell is marked, and the last number becomes 1. Answers 0, or 6 with the table untouched (another length, or a
    last number that is not 0). */
