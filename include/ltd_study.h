@@ -4,8 +4,8 @@
    A claim is its record, the 32 bytes of struct ltd_claim; a longer list is taken by its first 32.
    A refusal is the number of document 01's table or of document 02's requests. 255 says that a lent list has not the length or form asked
    for, before any numbered check; nothing is written then.
-   Link with -lc_file -lc_abi: libc_file.a has ltd_file_study, ltd_corrected_study, ltd_prepare and ltd_prepared_file_study, libc_abi.a all other
-   calls. Neither needs the other. */
+   Link with -lc_file -lc_abi: libc_file.a has ltd_file_study, ltd_prepare and ltd_prepared_file_study, libc_abi.a all other calls. Neither needs
+   the other. */
 #ifndef LTD_STUDY_H
 #define LTD_STUDY_H
 #include <stddef.h>

@@ -4,3 +4,4 @@ pub mod StudyCalls
 pub mod RecordCalls
 pub mod CompanyCalls
 pub mod LoadCalls
+pub mod CorrectedCalls

@@ -1,6 +1,7 @@
-// The calls for C and Rust that include/ltd_study.h declares, but for those that run whole files.
+// The calls for C and Rust that include/ltd_study.h declares, but for the plain runs of whole files.
 mod block;
 mod companies;
+mod corrected;
 mod factors;
 mod listing;
 mod loads;

@@ -7,28 +7,19 @@ ghost use Rattle.rates.specs.declared.Kind.the-variants.{Prepared};
 ghost use Rattle.rates.specs.Prepared.{prepareCheck, prepareAfter};
 ghost use Rattle.claim_file.specs.Run.{fileRunWith, fileRun};
 ghost use Rattle.claim_file.specs.PreparedRuns.{addingWith};
-ghost use Rattle.claim_file.specs.Corrections.{correctedRun};
 ghost use Rattle.study_list.specs.Lent.{answered, stored};
-ghost use Rattle.c_file.specs.FileCalls.{runNumbers, correctedNumbers};
+ghost use Rattle.c_file.specs.FileCalls.{runNumbers};
 use claim_file::FileRun;
 use rates::Kind;
-use study_list::put_study;
-use study_list::signed;
+use study_list::put_placed;
 
 // Stores number, block and place of a run, and its study, and answers the number.
 fn put_run(run: FileRun, out: &mut [i64]) -> u8
     ensures { λ r. ⌜ r ≡ answered 86 (now (out .entry)) (run .refused) ⌝ }
     ensures { λ _. ⌜ now (out .exit) ≡ stored 86 (now (out .entry)) (sets (now (out .entry)) 0 (runNumbers run)) ⌝ }
 {
-    if out.len() < 86 {
-        return 255;
-    }
     let study = run.study;
-    out[0] = signed(run.refused as u32);
-    out[1] = signed(run.block);
-    out[2] = signed(run.place as u32);
-    put_study(study, 3, out);
-    run.refused
+    put_placed(study, run.refused, run.block, run.place, out)
 }
 
 // The study of a whole claim file.
@@ -56,22 +47,4 @@ pub extern "C" fn ltd_prepared_file_study(file: &[u8], table: &[u32], out: &mut 
     ensures { λ _. ⌜ now (out .exit) ≡ stored 86 (now (out .entry)) (sets (now (out .entry)) 0 (runNumbers (fileRunWith (addingWith Prepared (now (table .entry))) (now (file .entry))))) ⌝ }
 {
     put_run(claim_file::run::run_with(Kind::Prepared, table, file), out)
-}
-
-// The study of a whole claim file with corrections.
-#[no_mangle]
-pub extern "C" fn ltd_corrected_study(file: &[u8], rates: &[u32], out: &mut [i64]) -> u8
-    ensures { λ r. ⌜ r ≡ answered 86 (now (out .entry)) (correctedRun (now (rates .entry)) (now (file .entry)) .refused) ⌝ }
-    ensures { λ _. ⌜ now (out .exit) ≡ stored 86 (now (out .entry)) (sets (now (out .entry)) 0 (correctedNumbers (correctedRun (now (rates .entry)) (now (file .entry))))) ⌝ }
-{
-    let run = claim_file::corrections::run_corrected(rates, file);
-    let study = run.study;
-    let stored = FileRun {
-        study,
-        due: 0,
-        refused: run.refused,
-        block: run.block,
-        place: run.place,
-    };
-    put_run(stored, out)
 }

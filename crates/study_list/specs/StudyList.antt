@@ -22,3 +22,7 @@ groupsNumbers s (suc n) = groupsNumbers s n ++ groupNumbers (groupFigures s (n +
 
 unfoldable pub studyNumbers : Study → List ℤ
 studyNumbers s = pos (s .window .first .0) ∷ pos (s .window .last .0) ∷ pos (s .taken) ∷ (groupsNumbers (s .sums) 5 ++ groupsNumbers (s .weighted) 5)
+
+-- a run's study with the place where it ended before it: number refused, block and claim place
+unfoldable pub placedNumbers : ℕ → ℕ → ℕ → Study → List ℤ
+placedNumbers number block place s = pos number ∷ pos block ∷ pos place ∷ studyNumbers s

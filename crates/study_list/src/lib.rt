@@ -8,7 +8,8 @@ ghost use lib.ListN.{length};
 ghost use lib.Seq.{sets};
 ghost use mathlib.Core.List.{[], _∷_};
 ghost use Rattle.basics.specs.Pick.{pick};
-ghost use Rattle.study_list.specs.StudyList.{countNumbers, groupNumbers, groupsNumbers, studyNumbers};
+ghost use Rattle.study_list.specs.StudyList.{countNumbers, groupNumbers, groupsNumbers, studyNumbers, placedNumbers};
+ghost use Rattle.study_list.specs.Lent.{answered, stored};
 use study::Group;
 use study::Study;
 use study::Sums;
@@ -91,4 +92,19 @@ pub fn put_study(study: Study, at: usize, out: &mut [i64]) -> bool
     }
     store_study(study, at, out);
     true
+}
+
+// Stores number, block and place of a run, and its study, and answers the number; 255, and nothing is written, where they don't fit.
+pub fn put_placed(study: Study, refused: u8, block: u32, place: u8, out: &mut [i64]) -> u8
+    ensures { λ r. ⌜ r ≡ answered 86 (now (out .entry)) refused ⌝ }
+    ensures { λ _. ⌜ now (out .exit) ≡ stored 86 (now (out .entry)) (sets (now (out .entry)) 0 (placedNumbers refused block place study)) ⌝ }
+{
+    if out.len() < 86 {
+        return 255;
+    }
+    out[0] = signed(refused as u32);
+    out[1] = signed(block);
+    out[2] = signed(place as u32);
+    put_study(study, 3, out);
+    refused
 }
