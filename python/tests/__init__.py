@@ -1,0 +1,1 @@
+"""Tests of ltd_study and ./ltd; 'python3 -m tests' in the folder python runs them, and .ci/desk in the gate."""
