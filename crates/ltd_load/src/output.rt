@@ -103,7 +103,7 @@ fn write_claims(asked: Asked)
 }
 
 // Writes the claim file, up to a write that fails.
-pub fn write_load(asked: Asked)
+pub(crate) fn write_load(asked: Asked)
     requires { ⌜ LoadAsked asked ⌝ }
 {
     let mut bytes = [0u8; 512];
