@@ -1,4 +1,4 @@
--- A table by its places: its length, what stands at a place, one entry raised, and tests of all its entries.
+-- A table by its places: its length, what stands at a place, and tests of all its entries; a test at every place.
 -- Assumes nothing.
 use Prim.Native.Nat.{ℕ, zero, suc, zero-le, _+_, _-_, _*_, _/_, _%_, _≤_, _<_}
 use mathlib.Core.Path.{_≡_, refl, sym, ap, ap₂, _∙_}
@@ -13,7 +13,7 @@ use borrow.Author.Tests.{le-leb, leb-true, eq-eqb, ne-eqb}
 use lib.Seq.{ext-getD, getD-set-same, getD-set-other, drop-cons}
 use Rattle.basics.specs.Pick.{pick}
 use Rattle.basics.proofs.Tests.{tests, by, and-left, and-right}
-use Rattle.basics.specs.Tables.{table, allWithin, allAtMost}
+use Rattle.basics.specs.Tables.{table, allWithin, allAtMost, everyPlace}
 
 pub table-length : {A : Type 0} (n : ℕ) (f : ℕ → A) → length (table n f) ≡ n
 unfolding table
@@ -41,31 +41,6 @@ table-same {A = A} (suc n) f g h =
 
 pub list-table : {A : Type 0} (n : ℕ) (f : ℕ → A) (z : A) (l : List A) → length l ≡ n → ((k : ℕ) → k < n → getD l k z ≡ f k) → l ≡ table n f
 list-table n f z l e h = ext-getD z l (table n f) (e ∙ sym (table-length n f)) (λ k q. h k (omega (tests, e)) ∙ sym (table-at n f k z (omega (tests, e))))
-
--- a table with one entry higher by one
-pub raise-at : (n k₀ k : ℕ) (base more : ℕ → ℕ) → k₀ < n → k < n → more k ≡ pick (eqb k k₀) 1 0
-    → getD (table n (λ j. more j + base j)) k 0 ≡ getD (set (table n base) k₀ (getD (table n base) k₀ 0 + 1)) k 0
-raise-at n k₀ k base more h l m =
-    table-at n (λ j. more j + base j) k 0 l
-    ∙ by (eqb k k₀) (λ y. more k ≡ pick y 1 0 → more k + base k ≡ getD (set (table n base) k₀ (getD (table n base) k₀ 0 + 1)) k 0)
-    (λ u v.
-    let e : k ≡ k₀ = omega tests in
-    let g = getD-set-same (table n base) k₀ (getD (table n base) k₀ 0 + 1) 0 (omega (tests, table-length n base)) in
-    let b0 = table-at n base k₀ 0 h in
-    rw e (omega (tests, rw e at v)))
-    (λ u v.
-    let g = getD-set-other (table n base) k₀ k (getD (table n base) k₀ 0 + 1) 0 (λ q. omega tests) in
-    let bk = table-at n base k 0 l in
-    omega tests)
-    m
-
-pub raise : (n k₀ : ℕ) (base more : ℕ → ℕ) → k₀ < n → ((k : ℕ) → k < n → more k ≡ pick (eqb k k₀) 1 0)
-    → table n (λ k. more k + base k) ≡ set (table n base) k₀ (getD (table n base) k₀ 0 + 1)
-raise n k₀ base more h m =
-    ext-getD 0 _ _ (table-length n _ ∙ sym (length-set (table n base) k₀ (getD (table n base) k₀ 0 + 1) ∙ table-length n base))
-    (λ k q.
-    let l : k < n = omega (tests, table-length n (λ k. more k + base k)) in
-    raise-at n k₀ k base more h l (m k l))
 
 -- all entries of a list pass where each does
 pub within-list : (m : ℕ) (l : List ℤ) → ((k : ℕ) → k < length l → natAbs (getD l k (pos 0)) ≤ m) → allWithin m l ≡ true
@@ -144,3 +119,26 @@ steps-from f z (x ∷ y ∷ l) i e (suc k) h =
 pub step-at : {A : Type 0} (f : ℕ → A → A → Bool) (z : A) (l : List A) → allSteps f 0 l ≡ true → (k : ℕ) → suc k < length l
     → f k (getD l k z) (getD l (suc k) z) ≡ true
 step-at f z l e k h = let p : 0 + k ≡ k = omega tests in rw p at (steps-from f z l 0 e k h)
+
+-- a test that holds at every place below n holds at each of them; one that fails somewhere doesn't; and two that come out alike do so together
+pub every-at : (n : ℕ) (f : ℕ → Bool) → everyPlace n f ≡ true → (k : ℕ) → k < n → f k ≡ true
+unfolding everyPlace
+every-at zero f e k h = absurd (omega tests)
+every-at (suc n) f e k h =
+    by (eqb k n) (λ _. f k ≡ true)
+    (λ q. let s : k ≡ n = omega tests in ap f s ∙ and-right (everyPlace n f) (f n) e)
+    (λ q. every-at n f (and-left (everyPlace n f) (f n) e) k (omega tests))
+
+pub every-is : (n : ℕ) (f : ℕ → Bool) → ((k : ℕ) → k < n → f k ≡ true) → everyPlace n f ≡ true
+unfolding everyPlace
+every-is zero f h = refl
+every-is (suc n) f h = rw (every-is n f (λ k q. h k (omega tests)), h n (omega tests))
+
+pub every-fails : (n : ℕ) (f : ℕ → Bool) (k : ℕ) → k < n → f k ≡ false → everyPlace n f ≡ false
+every-fails n f k h e =
+    by (everyPlace n f) (λ t. everyPlace n f ≡ t → t ≡ false) (λ q u. sym (every-at n f u k h) ∙ e) (λ q u. refl) refl
+
+pub every-same : (n : ℕ) (f g : ℕ → Bool) → ((k : ℕ) → k < n → f k ≡ g k) → everyPlace n f ≡ everyPlace n g
+unfolding everyPlace
+every-same zero f g h = refl
+every-same (suc n) f g h = ap₂ (λ (s t : Bool). s && t) (every-same n f g (λ k q. h k (omega tests))) (h n (omega tests))

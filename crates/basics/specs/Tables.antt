@@ -18,3 +18,8 @@ allWithin n (x ∷ xs) = leb (natAbs x) n && allWithin n xs
 unfoldable pub allAtMost : ℕ → List ℕ → Bool
 allAtMost n [] = true
 allAtMost n (x ∷ xs) = leb x n && allAtMost n xs
+
+-- a test holds at every place below n
+unfoldable pub everyPlace : ℕ → (ℕ → Bool) → Bool
+everyPlace zero f = true
+everyPlace (suc n) f = everyPlace n f && f n

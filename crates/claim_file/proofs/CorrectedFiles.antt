@@ -128,16 +128,15 @@ module _ (rates rest : List ℕ) where
     place-so : r .place ≡ p .place
     taken-so : r .study .taken ≡ length (p .claims)
     sums-so : r .study .sums ≡ studyOf (windowDays w) rates (p .claims) .sums
-    weighted-so : r .study .weighted ≡ studyOf (windowDays w) rates (p .claims) .weighted
 
   follows-with : (w : WindowDates) (p : Course) → Follows w p (withStudy rates (windowDays w) p)
   unfolding studyOf
-  follows-with w p = record { number-so = refl; block-so = refl; place-so = refl; taken-so = refl; sums-so = refl; weighted-so = refl }
+  follows-with w p = record { number-so = refl; block-so = refl; place-so = refl; taken-so = refl; sums-so = refl }
 
   not-opened : (w : WindowDates) (number block : ℕ)
       → Follows w (course [] number block 0) (record { study = fresh firstDayAlone; refused = number; block = block; place = 0 })
   unfolding studyOf fresh sumOver
-  not-opened w number block = record { number-so = refl; block-so = refl; place-so = refl; taken-so = refl; sums-so = refl; weighted-so = refl }
+  not-opened w number block = record { number-so = refl; block-so = refl; place-so = refl; taken-so = refl; sums-so = refl }
 
   module _ (w : WindowDates) (ok : Accepts w) where
     opens : (datesWindow (w .first) (w .last) ≡ true) × (opened (w .first) (w .last) .study ≡ fresh (windowDays w))
@@ -223,6 +222,5 @@ corrected-demand-3 rates rest whole part parts ok ps =
     (parts-map _ _ windowDays (λ w k. sound-days rates rest w k) b e part parts ps) refl (every-map _ _ (λ w k. refl) part parts o) in
     record {
       same-end = every-map _ _ (λ w k. same-end rates rest w whole k ok) part parts o;
-      sums = same-totals _ _ _ _ part parts (every-map _ _ (λ w k. sym (run-follows rates rest w k .sums-so)) part parts o) (sym (g .sums-so)) (t .0);
-      weighted = same-totals _ _ _ _ part parts (every-map _ _ (λ w k. sym (run-follows rates rest w k .weighted-so)) part parts o) (sym (g .weighted-so)) (t .1);
+      sums = same-totals _ _ _ _ part parts (every-map _ _ (λ w k. sym (run-follows rates rest w k .sums-so)) part parts o) (sym (g .sums-so)) t;
     }

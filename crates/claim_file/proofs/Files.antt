@@ -328,8 +328,7 @@ files-demand-3 rates rest whole part parts ok ps =
     (every-map _ _ (λ w k. ap (λ (r : FileRun). r .study) (run-plain rates w k rest)) part parts o) in
     record {
       same-end = every-map _ _ (λ w k. same-end rates rest w whole k ok) part parts o;
-      sums = t .0;
-      weighted = t .1;
+      sums = t;
       whole-study = has-study rates whole ok rest;
       part-studies = every-map _ _ (λ w k. has-study rates w k rest) part parts o;
     }

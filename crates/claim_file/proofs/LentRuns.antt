@@ -6,6 +6,7 @@ use mathlib.Core.Bool.{Bool, true, false}
 use mathlib.Core.List.{List}
 use lib.ListN.{length, take, drop}
 use lib.Dec.{eqb}
+use lib.IntN.{ℤ}
 use borrow.Author.Tests.{eq-eqb, ne-eqb, eqb-true, eqb-false}
 use Rattle.basics.specs.Pick.{pick}
 use Rattle.basics.proofs.Tests.{by}
@@ -14,10 +15,8 @@ use Rattle.claim_months.specs.declared.MaybeWindow.the-variants.{Known, Refused
 use Rattle.claim_months.specs.Windows.{windowIn}
 use Rattle.claim_months.proofs.DateWindows.{window-refused}
 use Rattle.study.specs.declared.Answer.{Answer}
-use Rattle.study.specs.declared.Sums.{Sums}
 use Rattle.study.specs.Study.{fresh, firstDayAlone, openedWith, opened}
 use Rattle.study.specs.PreparedAdding.{lentStudy}
-use Rattle.study.proofs.Algebra.{Shaped}
 use Rattle.claim_file.specs.declared.FileRun.{FileRun}
 use Rattle.claim_file.specs.declared.LentRun.{LentRun}
 use Rattle.claim_file.specs.Bytes.{dateFrom}
@@ -106,37 +105,11 @@ module _ (r : FileRun) (add : Adding) (bytes part : List ℕ) (p : part ≡ take
   fed-claims h = fed-turn r add bytes part p u l ∙ ap (λ (y : FileRun). fed y add (drop 512 bytes)) (sym (begun-claims r add part x q h))
 
 -- a run that stops or goes on, with the sums so far
-module _ (r : LentRun) (from from-weighted sums weighted : Sums) (taken : ℕ) where
-  pub stops-with : (number place : ℕ)
-      → runWith (lentStops r taken number place) sums weighted ≡ stops (runWith r from from-weighted) (lentStudy (r .window) taken sums weighted) number place
+module _ (r : LentRun) (from sums : List ℤ) (taken : ℕ) where
+  pub stops-with : (number place : ℕ) → runWith (lentStops r taken number place) sums ≡ stops (runWith r from) (lentStudy (r .window) taken sums) number place
   unfolding runWith lentStops stops
   stops-with number place = refl
 
-  pub goes-on-with : runWith (lentGoesOn r taken) sums weighted ≡ goesOn (runWith r from from-weighted) (lentStudy (r .window) taken sums weighted)
+  pub goes-on-with : runWith (lentGoesOn r taken) sums ≡ goesOn (runWith r from) (lentStudy (r .window) taken sums)
   unfolding runWith lentGoesOn goesOn
   goes-on-with = refl
-
--- two sums whose lists have the same lengths
-pub record SameLengths (a b : Sums) : Type 0 where
-  pub thirtieths : length (a .thirtieths) ≡ length (b .thirtieths)
-  pub closings : length (a .closings) ≡ length (b .closings)
-  pub recoveries : length (a .recoveries) ≡ length (b .recoveries)
-  pub deaths : length (a .deaths) ≡ length (b .deaths)
-
-pub same-lengths : (a b : Sums) → Shaped a → Shaped b → SameLengths a b
-same-lengths a b y z =
-    record {
-      thirtieths = y .thirtieths ∙ sym (z .thirtieths);
-      closings = y .closings ∙ sym (z .closings);
-      recoveries = y .recoveries ∙ sym (z .recoveries);
-      deaths = y .deaths ∙ sym (z .deaths);
-    }
-
-pub shaped-kept : (a b : Sums) → SameLengths a b → Shaped b → Shaped a
-shaped-kept a b k z =
-    record {
-      thirtieths = k .thirtieths ∙ z .thirtieths;
-      closings = k .closings ∙ z .closings;
-      recoveries = k .recoveries ∙ z .recoveries;
-      deaths = k .deaths ∙ z .deaths;
-    }

@@ -4,6 +4,7 @@ use mathlib.Core.Bool.{Bool, true, _&&_}
 use mathlib.Core.List.{List, _∷_, _++_}
 use lib.ListN.{length}
 use lib.Dec.{leb, eqb}
+use Rattle.basics.specs.Limits.{block-bytes}
 use Rattle.calendar.specs.declared.Date.{Date}
 use Rattle.basics.specs.Pick.{pick}
 use Rattle.claim_months.specs.declared.Claim.{Claim}
@@ -36,7 +37,7 @@ claimsPadded bytes (suc n) = claimsPadded bytes n && recordPadded bytes (16 + 32
 -- 11, block: length, number, count, zero bytes or check wrong. Block 0 has count 0 and the window's dates at 16 and 20
 unfoldable pub framed : ℕ → List ℕ → Bool
 framed due bytes =
-    eqb (length bytes) 512 && eqb (blockNumber bytes) due && eqb (checkOf bytes) (twoAt bytes 510) && zeroFrom bytes 3 13
+    eqb (length bytes) block-bytes && eqb (blockNumber bytes) due && eqb (checkOf bytes) (twoAt bytes 510) && zeroFrom bytes 3 13
 
 unfoldable pub windowBlock : List ℕ → Bool
 windowBlock bytes = framed 0 bytes && eqb (claimCount bytes) 0 && zeroFrom bytes 24 486

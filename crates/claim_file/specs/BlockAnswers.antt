@@ -5,6 +5,7 @@ use mathlib.Core.List.{List, [], _∷_}
 use lib.ListN.{length, take}
 use lib.Seq.{sets}
 use lib.Dec.{leb, eqb}
+use Rattle.basics.specs.Limits.{block-bytes}
 use Rattle.calendar.specs.declared.Date.{Date}
 use Rattle.basics.specs.Pick.{pick}
 use Rattle.basics.specs.Checks.{check, refuse-block}
@@ -60,7 +61,7 @@ windowOf bytes = pick (windowBlock bytes) (Known (record { first = dateFrom byte
 
 -- writing: more than 15 claims, claims as block 0, a number that two bytes don't hold, or a list that has not 512 bytes is refused 11
 unfoldable pub writeSound : ℕ → ℕ → ℕ → Bool
-writeSound number count room = leb 1 number && leb number 65535 && leb count 15 && eqb room 512
+writeSound number count room = leb 1 number && leb number 65535 && leb count 15 && eqb room block-bytes
 
 unfoldable pub writeCheck : ℕ → ℕ → ℕ → ℕ
 writeCheck number count room = check (writeSound number count room) refuse-block
@@ -71,4 +72,4 @@ bytesAfter number block old =
     pick (writeSound number (block .count) (length old)) (blockBytes number (take (block .count) (block .claims))) old
 
 unfoldable pub windowAfter : Date → Date → List ℕ → List ℕ
-windowAfter b e old = pick (eqb (length old) 512) (windowBytes b e) old
+windowAfter b e old = pick (eqb (length old) block-bytes) (windowBytes b e) old

@@ -6,6 +6,7 @@ use mathlib.Core.List.{List, [], _∷_, _++_}
 use mathlib.Core.Logic.{_⊎_}
 use lib.ListN.{length, take, drop, getD}
 use lib.Dec.{leb, ltb, eqb}
+use Rattle.basics.specs.Limits.{block-bytes, most-records}
 use Rattle.basics.specs.Pick.{pick}
 use Rattle.basics.specs.Checks.{refuse-block, refuse-too-many-records}
 use Rattle.claim_months.specs.declared.Claim.{Claim}
@@ -37,10 +38,10 @@ recordsOfBlock bytes b k (suc n) = record { claim = blockClaim bytes k; block = 
 unfoldable pub recordsOfBlocks : List ℕ → ℕ → ℕ → List PlacedClaim
 recordsOfBlocks bytes b zero = []
 recordsOfBlocks bytes b (suc n) =
-    recordsOfBlock (take 512 bytes) b 0 (claimCount (take 512 bytes)) ++ recordsOfBlocks (drop 512 bytes) (suc b) n
+    recordsOfBlock (take block-bytes bytes) b 0 (claimCount (take block-bytes bytes)) ++ recordsOfBlocks (drop block-bytes bytes) (suc b) n
 
 unfoldable pub fileRecords : List ℕ → List PlacedClaim
-fileRecords bytes = recordsOfBlocks bytes 0 (length bytes / 512)
+fileRecords bytes = recordsOfBlocks bytes 0 (length bytes / block-bytes)
 
 unfoldable pub claimsOf : List PlacedClaim → List Claim
 claimsOf [] = []
@@ -58,11 +59,11 @@ placesOf (r ∷ rs) = r .place ∷ placesOf rs
 -- block 0 among them, and no part block at the end
 unfoldable pub soundBlocks : ℕ → List ℕ → ℕ → ℕ
 soundBlocks due bytes zero = 0
-soundBlocks due bytes (suc n) = pick (blockSound due (take 512 bytes)) (suc (soundBlocks (suc due) (drop 512 bytes) n)) 0
+soundBlocks due bytes (suc n) = pick (blockSound due (take block-bytes bytes)) (suc (soundBlocks (suc due) (drop block-bytes bytes) n)) 0
 
 unfoldable pub allSound : List ℕ → Bool
 allSound bytes =
-    eqb (soundBlocks 0 bytes (length bytes / 512)) (length bytes / 512) && eqb (length bytes % 512) 0 && ltb 0 (length bytes)
+    eqb (soundBlocks 0 bytes (length bytes / block-bytes)) (length bytes / block-bytes) && eqb (length bytes % block-bytes) 0 && ltb 0 (length bytes)
 
 -- a claim number stands in some records; of all records with one claim number the last in file order are kept
 unfoldable pub hasNumber : ℕ → List PlacedClaim → Bool
@@ -88,10 +89,10 @@ correctedRun rates bytes =
     let answer = opened (dateFrom bytes 16) (dateFrom bytes 20) in
     pick (allSound bytes)
     (pick (eqb (answer .refused) 0)
-    (pick (leb (length (fileRecords bytes)) 60000) (recordsAdded rates (answer .study) (lastOnes (fileRecords bytes)))
+    (pick (leb (length (fileRecords bytes)) most-records) (recordsAdded rates (answer .study) (lastOnes (fileRecords bytes)))
     (record { study = answer .study; refused = refuse-too-many-records; block = 0; place = 0 }))
     (record { study = answer .study; refused = answer .refused; block = 0; place = 0 }))
-    (record { study = fresh firstDayAlone; refused = refuse-block; block = soundBlocks 0 bytes (length bytes / 512); place = 0 })
+    (record { study = fresh firstDayAlone; refused = refuse-block; block = soundBlocks 0 bytes (length bytes / block-bytes); place = 0 })
 
 -- The struck file: the same blocks without the superseded records
 unfoldable pub inBlock : ℕ → List PlacedClaim → List Claim
@@ -103,7 +104,7 @@ struckBlocks kept b zero = []
 struckBlocks kept b (suc n) = blockBytes b (inBlock b kept) ++ struckBlocks kept (suc b) n
 
 unfoldable pub struckFile : List ℕ → List ℕ
-struckFile bytes = take 512 bytes ++ struckBlocks (lastOnes (fileRecords bytes)) 1 (length (drop 512 bytes) / 512)
+struckFile bytes = take block-bytes bytes ++ struckBlocks (lastOnes (fileRecords bytes)) 1 (length (drop block-bytes bytes) / block-bytes)
 
 -- A plain run of a file and a run with corrections stop at the same record of their sequences of records: the same study and number, and where
 -- they refuse, the place of that record in each file
@@ -126,16 +127,16 @@ pub record SameWindow (plain : FileRun) (corrected : CorrectedRun) : Type 0 wher
 pub record StruckRuns : Type 0 where
   -- the struck file has sound blocks, the same block 0, and the kept records, each in its block
   pub sound : (bytes : List ℕ) → AreBytes bytes → allSound bytes ≡ true → allSound (struckFile bytes) ≡ true
-  pub block-0 : (bytes : List ℕ) → allSound bytes ≡ true → take 512 (struckFile bytes) ≡ take 512 bytes
+  pub block-0 : (bytes : List ℕ) → allSound bytes ≡ true → take block-bytes (struckFile bytes) ≡ take block-bytes bytes
   pub claims : (bytes : List ℕ) → AreBytes bytes → allSound bytes ≡ true → claimsOf (fileRecords (struckFile bytes)) ≡ claimsOf (lastOnes (fileRecords bytes))
   pub blocks : (bytes : List ℕ) → AreBytes bytes → allSound bytes ≡ true → blocksOf (fileRecords (struckFile bytes)) ≡ blocksOf (lastOnes (fileRecords bytes))
   -- the plain run of any file with that block 0 and that sequence of records, the struck file among them
-  pub same : (rates bytes other : List ℕ) → allSound bytes ≡ true → length (fileRecords bytes) ≤ 60000 → allSound other ≡ true
-      → take 512 other ≡ take 512 bytes → claimsOf (fileRecords other) ≡ claimsOf (lastOnes (fileRecords bytes))
+  pub same : (rates bytes other : List ℕ) → allSound bytes ≡ true → length (fileRecords bytes) ≤ most-records → allSound other ≡ true
+      → take block-bytes other ≡ take block-bytes bytes → claimsOf (fileRecords other) ≡ claimsOf (lastOnes (fileRecords bytes))
       → opened (dateFrom bytes 16) (dateFrom bytes 20) .refused ≡ 0
       → SameStop (fileRun rates other) (fileRecords other) (correctedRun rates bytes) (lastOnes (fileRecords bytes))
   -- and where opening refuses the window
-  pub same-window : (rates bytes other : List ℕ) → allSound bytes ≡ true → allSound other ≡ true → take 512 other ≡ take 512 bytes
+  pub same-window : (rates bytes other : List ℕ) → allSound bytes ≡ true → allSound other ≡ true → take block-bytes other ≡ take block-bytes bytes
       → (opened (dateFrom bytes 16) (dateFrom bytes 20) .refused ≡ 0 → ⊥) → SameWindow (fileRun rates other) (correctedRun rates bytes)
 
 -- Files that differ only in their window, with sound windows that cut one another: all corrected runs end under the same number, block and place,
@@ -152,7 +153,6 @@ pub record SameCorrectedEnd (r s : CorrectedRun) : Type 0 where
 pub record CorrectedAddUp (rates rest : List ℕ) (whole part : WindowDates) (parts : List WindowDates) : Type 0 where
   pub same-end : EveryPart (λ w. SameCorrectedEnd (correctedOf rates rest w) (correctedOf rates rest whole)) part parts
   pub sums : total plus (λ w. correctedOf rates rest w .study .sums) part parts ≡ correctedOf rates rest whole .study .sums
-  pub weighted : total plus (λ w. correctedOf rates rest w .study .weighted) part parts ≡ correctedOf rates rest whole .study .weighted
 
 abbrev pub CorrectedDemand3 : Type 0
 CorrectedDemand3 =

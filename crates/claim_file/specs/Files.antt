@@ -5,6 +5,7 @@ use Prim.Native.Nat.{ℕ, zero, suc, _/_}
 use mathlib.Core.Path.{_≡_}
 use mathlib.Core.List.{List, [], _∷_, _++_}
 use lib.ListN.{length, take, drop}
+use Rattle.basics.specs.Limits.{block-bytes}
 use Rattle.claim_months.specs.declared.Claim.{Claim}
 use Rattle.claim_months.specs.declared.Window.{Window}
 use Rattle.claim_months.specs.Windows.{between, Parts, total, EveryPart}
@@ -26,10 +27,10 @@ claimsOfBlock bytes k (suc n) = blockClaim bytes k ∷ claimsOfBlock bytes (suc 
 
 unfoldable pub claimsOfBlocks : List ℕ → ℕ → List Claim
 claimsOfBlocks bytes zero = []
-claimsOfBlocks bytes (suc n) = claimsOfBlock (take 512 bytes) 0 (claimCount (take 512 bytes)) ++ claimsOfBlocks (drop 512 bytes) n
+claimsOfBlocks bytes (suc n) = claimsOfBlock (take block-bytes bytes) 0 (claimCount (take block-bytes bytes)) ++ claimsOfBlocks (drop block-bytes bytes) n
 
 unfoldable pub fileClaims : List ℕ → List Claim
-fileClaims bytes = claimsOfBlocks bytes (length bytes / 512)
+fileClaims bytes = claimsOfBlocks bytes (length bytes / block-bytes)
 
 -- opening accepts a file's window
 abbrev pub Accepts : WindowDates → Type 0
@@ -53,7 +54,6 @@ HasStudy rates rest w = runOf rates rest w .refused ≡ 0 → runOf rates rest w
 pub record FilesAddUp (rates rest : List ℕ) (whole part : WindowDates) (parts : List WindowDates) : Type 0 where
   pub same-end : EveryPart (λ w. SameEnd (runOf rates rest w) (runOf rates rest whole)) part parts
   pub sums : total plus (λ w. runOf rates rest w .study .sums) part parts ≡ runOf rates rest whole .study .sums
-  pub weighted : total plus (λ w. runOf rates rest w .study .weighted) part parts ≡ runOf rates rest whole .study .weighted
   pub whole-study : HasStudy rates rest whole
   pub part-studies : EveryPart (HasStudy rates rest) part parts
 

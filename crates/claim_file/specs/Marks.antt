@@ -5,6 +5,7 @@ use mathlib.Core.Bool.{Bool, true, false, _||_}
 use mathlib.Core.List.{List, [], _∷_}
 use lib.ListN.{length, getD, take, drop}
 use lib.Dec.{eqb, ltb}
+use Rattle.basics.specs.Limits.{block-bytes}
 use Rattle.basics.specs.Pick.{pick}
 use Rattle.basics.specs.Checks.{refuse-block}
 use Rattle.claim_months.specs.declared.Claim.{Claim}
@@ -46,7 +47,7 @@ MarksTo marks xs e = (i : ℕ) → marked marks i ≡ repeated xs i e
 
 -- slot s of a file, the 32 bytes from byte 32 × s + 16 on, has a record where its place in its block is below the block's count
 unfoldable pub slotFilled : List ℕ → ℕ → Bool
-slotFilled bytes s = ltb (s % 16) (byteAt bytes (s / 16 * 512 + 2))
+slotFilled bytes s = ltb (s % 16) (byteAt bytes (s / 16 * block-bytes + 2))
 
 -- the claim numbers of the records in the n slots from s on, and in all slots from s on
 unfoldable pub slotNumbers : List ℕ → ℕ → ℕ → List ℕ

@@ -7,6 +7,7 @@ use mathlib.Core.Bool.{Bool, true, _&&_}
 use mathlib.Core.List.{List}
 use lib.ListN.{length, take, drop}
 use lib.Dec.{leb, ltb, eqb}
+use Rattle.basics.specs.Limits.{block-bytes}
 use Rattle.basics.specs.Pick.{pick}
 use Rattle.basics.specs.Checks.{check, _then_, refuse-rate-table, refuse-cell, refuse-rate, refuse-block, refuse-date, refuse-status, refuse-sequence, refuse-short-elimination}
 use Rattle.claim_months.specs.declared.Claim.{Claim}
@@ -83,15 +84,15 @@ olderBlockFed l r add bytes =
 unfoldable pub olderBlocksFed : Layout → FileRun → Adding → List ℕ → ℕ → FileRun
 olderBlocksFed l r add bytes zero = r
 olderBlocksFed l r add bytes (suc n) =
-    pick (eqb (r .refused) 0) (olderBlocksFed l (olderBlockFed l r add (take 512 bytes)) add (drop 512 bytes) n) r
+    pick (eqb (r .refused) 0) (olderBlocksFed l (olderBlockFed l r add (take block-bytes bytes)) add (drop block-bytes bytes) n) r
 
 unfoldable pub olderRun : Layout → Adding → List ℕ → FileRun
-olderRun l add bytes = ended (partFed (olderBlocksFed l started add bytes (length bytes / 512)) (length bytes % 512))
+olderRun l add bytes = ended (partFed (olderBlocksFed l started add bytes (length bytes / block-bytes)) (length bytes % block-bytes))
 
 -- the n blocks of a file, from the number due on, were sound then
 unfoldable pub olderBlocks : Layout → ℕ → List ℕ → ℕ → Bool
 olderBlocks l due bytes zero = true
-olderBlocks l due bytes (suc n) = olderSound l due (take 512 bytes) && olderBlocks l (suc due) (drop 512 bytes) n
+olderBlocks l due bytes (suc n) = olderSound l due (take block-bytes bytes) && olderBlocks l (suc due) (drop block-bytes bytes) n
 
 -- the checks 6 to 8 then: a table had up to 64 cells
 unfoldable pub olderRateCheck : List ℕ → ℕ → ℕ
@@ -114,7 +115,7 @@ pub record RunsAsBefore (l : Layout) : Type 0 where
   pub sound : (due : ℕ) (bytes : List ℕ) → olderSound l due bytes ≡ true → blockSound due bytes ≡ true
   pub claims : (due : ℕ) (bytes : List ℕ) → 0 < due → olderSound l due bytes ≡ true → (k : ℕ) → k < claimCount bytes
       → blockClaim bytes k ≡ olderClaim l bytes k
-  pub runs : (add : Adding) (bytes : List ℕ) → olderBlocks l 0 bytes (length bytes / 512) ≡ true → olderRun l add bytes ≡ fileRunWith add bytes
+  pub runs : (add : Adding) (bytes : List ℕ) → olderBlocks l 0 bytes (length bytes / block-bytes) ≡ true → olderRun l add bytes ≡ fileRunWith add bytes
 
 -- So it is for both layouts; a table of up to 64 cells has the same checks, and a claim without a benefit has, and counts as it did: its weight is 1.
 -- `proofs/OlderRuns.antt` proves it

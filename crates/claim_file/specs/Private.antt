@@ -15,13 +15,10 @@ blockBegun r bytes =
     (record { study = a .study; due = r .due; refused = 0; block = r .block; place = r .place })
     (stops r (a .study) (a .refused) 0)
 
--- the run with some claims taken, refused at the block due; after a block; and refused 255, else as it is
+-- the run with some claims taken, refused at the block due, and after a block
 unfoldable pub lentStops : LentRun → ℕ → ℕ → ℕ → LentRun
 lentStops r taken number place =
     record { window = r .window; taken = taken; due = r .due; refused = number; block = r .due; place = place }
 
 unfoldable pub lentGoesOn : LentRun → ℕ → LentRun
 lentGoesOn r taken = record { window = r .window; taken = taken; due = r .due + 1; refused = 0; block = 0; place = 0 }
-
-unfoldable pub lentMisfit : LentRun → LentRun
-lentMisfit r = record { window = r .window; taken = r .taken; due = r .due; refused = 255; block = r .block; place = r .place }

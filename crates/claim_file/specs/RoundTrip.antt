@@ -4,6 +4,7 @@ use Prim.Native.Nat.{ℕ, _<_}
 use mathlib.Core.Path.{_≡_}
 use mathlib.Core.List.{List}
 use lib.ListN.{length, getD, set, take}
+use Rattle.basics.specs.Limits.{block-bytes}
 use Rattle.basics.specs.Checks.{refuse-block}
 use Rattle.basics.specs.Tables.{table}
 use Rattle.calendar.specs.declared.Date.{Date}
@@ -46,17 +47,17 @@ pub record RoundTrips : Type 0 where
       → readOf number (bytesAfter number block old)
       ≡ record { refused = 0; block = record { count = block .count; claims = inFifteen (take (block .count) (block .claims)) } }
   -- reading, then writing: the very bytes
-  pub read-write : (number : ℕ) (bytes old : List ℕ) → AreBytes bytes → readOf number bytes .refused ≡ 0 → length old ≡ 512
+  pub read-write : (number : ℕ) (bytes old : List ℕ) → AreBytes bytes → readOf number bytes .refused ≡ 0 → length old ≡ block-bytes
       → (writeCheck number (readOf number bytes .block .count) (length old) ≡ 0) × (bytesAfter number (readOf number bytes .block) old ≡ bytes)
   -- the same of block 0
-  pub write-read-window : (b e : Date) (old : List ℕ) → DateFits b → DateFits e → length old ≡ 512
+  pub write-read-window : (b e : Date) (old : List ℕ) → DateFits b → DateFits e → length old ≡ block-bytes
       → windowOf (windowAfter b e old) ≡ Known (record { first = b; last = e })
-  pub read-write-window : (w : WindowDates) (bytes old : List ℕ) → AreBytes bytes → windowOf bytes ≡ Known w → length old ≡ 512
+  pub read-write-window : (w : WindowDates) (bytes old : List ℕ) → AreBytes bytes → windowOf bytes ≡ Known w → length old ≡ block-bytes
       → windowAfter (w .first) (w .last) old ≡ bytes
   -- one changed byte is refused, by the check of either kind of block and by the call that reads it
-  pub changed : (due : ℕ) (bytes : List ℕ) (i v : ℕ) → AreBytes bytes → blockCheck due bytes ≡ 0 → i < 512 → v < 256 → (v ≡ getD bytes i 0 → ⊥)
+  pub changed : (due : ℕ) (bytes : List ℕ) (i v : ℕ) → AreBytes bytes → blockCheck due bytes ≡ 0 → i < block-bytes → v < 256 → (v ≡ getD bytes i 0 → ⊥)
       → blockCheck due (set bytes i v) ≡ refuse-block
-  pub changed-read : (due : ℕ) (bytes : List ℕ) (i v : ℕ) → AreBytes bytes → readOf due bytes .refused ≡ 0 → i < 512 → v < 256 → (v ≡ getD bytes i 0 → ⊥)
+  pub changed-read : (due : ℕ) (bytes : List ℕ) (i v : ℕ) → AreBytes bytes → readOf due bytes .refused ≡ 0 → i < block-bytes → v < 256 → (v ≡ getD bytes i 0 → ⊥)
       → readOf due (set bytes i v) .refused ≡ refuse-block
-  pub changed-window : (w : WindowDates) (bytes : List ℕ) (i v : ℕ) → AreBytes bytes → windowOf bytes ≡ Known w → i < 512 → v < 256 → (v ≡ getD bytes i 0 → ⊥)
+  pub changed-window : (w : WindowDates) (bytes : List ℕ) (i v : ℕ) → AreBytes bytes → windowOf bytes ≡ Known w → i < block-bytes → v < 256 → (v ≡ getD bytes i 0 → ⊥)
       → windowOf (set bytes i v) ≡ Refused refuse-block

@@ -5,6 +5,7 @@ use mathlib.Core.Bool.{_&&_}
 use mathlib.Core.List.{List, _++_}
 use lib.ListN.{length, take, drop}
 use lib.Dec.{ltb, eqb}
+use Rattle.basics.specs.Limits.{block-bytes}
 use Rattle.basics.specs.Pick.{pick}
 use Rattle.basics.specs.Checks.{refuse-block}
 use Rattle.claim_months.specs.declared.Claim.{Claim}
@@ -58,7 +59,7 @@ blockFed r add bytes =
 unfoldable pub blocksFed : FileRun → Adding → List ℕ → ℕ → FileRun
 blocksFed r add bytes zero = r
 blocksFed r add bytes (suc n) =
-    pick (eqb (r .refused) 0) (blocksFed (blockFed r add (take 512 bytes)) add (drop 512 bytes) n) r
+    pick (eqb (r .refused) 0) (blocksFed (blockFed r add (take block-bytes bytes)) add (drop block-bytes bytes) n) r
 
 -- a part block at the end is refused 11 under the number due there
 unfoldable pub partFed : FileRun → ℕ → FileRun
@@ -66,7 +67,7 @@ partFed r left = pick (eqb (r .refused) 0 && ltb 0 left) (stops r (r .study) ref
 
 -- feeding bytes to a run: its whole blocks, then what is left
 unfoldable pub fed : FileRun → Adding → List ℕ → FileRun
-fed r add bytes = partFed (blocksFed r add bytes (length bytes / 512)) (length bytes % 512)
+fed r add bytes = partFed (blocksFed r add bytes (length bytes / block-bytes)) (length bytes % block-bytes)
 
 -- ending a run: a file without block 0 is refused 11
 unfoldable pub ended : FileRun → FileRun
@@ -81,4 +82,4 @@ fileRun rates bytes = fileRunWith (adding rates) bytes
 
 -- a file may come in pieces: after a whole number of blocks a run goes on as if all bytes had come at once; `proofs/Feeding.antt` proves it
 abbrev pub FedInPieces : Type 0
-FedInPieces = (r : FileRun) (add : Adding) (a b : List ℕ) → length a % 512 ≡ 0 → fed (fed r add a) add b ≡ fed r add (a ++ b)
+FedInPieces = (r : FileRun) (add : Adding) (a b : List ℕ) → length a % block-bytes ≡ 0 → fed (fed r add a) add b ≡ fed r add (a ++ b)

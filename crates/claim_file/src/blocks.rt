@@ -5,6 +5,7 @@ ghost use denote.Ref.{now};
 ghost use lib.ListN.{length, take};
 ghost use lib.Seq.{sets};
 ghost use mathlib.Core.List.{[], _∷_, _++_};
+ghost use Rattle.basics.specs.Limits.{block-bytes};
 ghost use Rattle.claim_file.specs.Bytes.{two, zeros};
 ghost use Rattle.claim_file.specs.Record.{allClaimBytes};
 ghost use Rattle.claim_file.specs.Block.{claimCount, blockClaim, weightedSum, claimsPadded, framed, windowBlock, claimBlock, blockSound, checkOf, windowBytes, blockBytes};
@@ -25,13 +26,14 @@ use crate::record::claim_from;
 use crate::record::is_padded;
 use crate::record::no_claim;
 use crate::record::put_claim;
+use basics::limits::BLOCK_BYTES;
 use basics::refusal;
 use calendar::Date;
 use claim_months::Claim;
 
 // The claim at a place of a block, from 0.
 pub(crate) fn claim_at(bytes: &[u8], place: u8) -> Claim
-    requires { ⌜ length (now bytes) ≡ 512 ⌝ }
+    requires { ⌜ length (now bytes) ≡ block-bytes ⌝ }
     requires { ⌜ place < 15 ⌝ }
     ensures { λ r. ⌜ r ≡ blockClaim (now (bytes .entry)) place ⌝ }
 {
@@ -40,12 +42,12 @@ pub(crate) fn claim_at(bytes: &[u8], place: u8) -> Claim
 
 // The sum of the first 510 bytes, each times its place from 1.
 fn weighted_sum(bytes: &[u8]) -> u32
-    requires { ⌜ length (now bytes) ≡ 512 ⌝ }
+    requires { ⌜ length (now bytes) ≡ block-bytes ⌝ }
     ensures { λ r. ⌜ r ≡ weightedSum (now (bytes .entry)) 510 ⌝ }
 {
     // Weights below 512 are known to fit 16 bits, for which vector code is better: place 511 weighs 0, and place 510's 511 is taken off again.
     let mut sum: u32 = 0;
-    for i in 0..512 {
+    for i in 0..BLOCK_BYTES {
         sum += (i as u32 + 1) % 512 * bytes[i] as u32;
     }
     sum - 511 * bytes[510] as u32
@@ -53,7 +55,7 @@ fn weighted_sum(bytes: &[u8]) -> u32
 
 // Whether the bytes past the fields of the first claims are zero.
 fn claims_padded(bytes: &[u8], count: u8) -> bool
-    requires { ⌜ length (now bytes) ≡ 512 ⌝ }
+    requires { ⌜ length (now bytes) ≡ block-bytes ⌝ }
     requires { ⌜ count ≤ 15 ⌝ }
     ensures { λ r. ⌜ r ≡ claimsPadded (now (bytes .entry)) count ⌝ }
 {
@@ -71,7 +73,7 @@ fn claims_padded(bytes: &[u8], count: u8) -> bool
 fn is_framed(bytes: &[u8], due: u32) -> bool
     ensures { λ r. ⌜ r ≡ framed due (now (bytes .entry)) ⌝ }
 {
-    if bytes.len() != 512 {
+    if bytes.len() != BLOCK_BYTES {
         return false;
     }
     if two_at(bytes, 0) as u32 != due {
@@ -148,7 +150,7 @@ pub fn read_window(bytes: &[u8]) -> MaybeDates
 
 // The claims of a sound block, and zeros in the places past them.
 fn claims_of(bytes: &[u8], count: u8) -> [Claim; 15]
-    requires { ⌜ length (now bytes) ≡ 512 ⌝ }
+    requires { ⌜ length (now bytes) ≡ block-bytes ⌝ }
     requires { ⌜ (count ≤ 15) × (count ≡ claimCount (now bytes)) ⌝ }
     ensures { λ r. ⌜ r ≡ claimsIn (now (bytes .entry)) 0 15 ⌝ }
 {
@@ -190,7 +192,7 @@ pub fn read(bytes: &[u8], due: u32) -> BlockRead
 
 // Stores the claims of a block from byte 16 on.
 fn put_claims(block: Block, bytes: &mut [u8])
-    requires { ⌜ length (now bytes) ≡ 512 ⌝ }
+    requires { ⌜ length (now bytes) ≡ block-bytes ⌝ }
     requires { ⌜ block .count ≤ 15 ⌝ }
     ensures { λ _. ⌜ now (bytes .exit) ≡ sets (now (bytes .entry)) 16 (allClaimBytes (take (block .count) (block .claims))) ⌝ }
 {
@@ -201,7 +203,7 @@ fn put_claims(block: Block, bytes: &mut [u8])
 
 // Stores number, count and the zeros before byte 16.
 fn put_head(number: u16, count: u8, bytes: &mut [u8])
-    requires { ⌜ length (now bytes) ≡ 512 ⌝ }
+    requires { ⌜ length (now bytes) ≡ block-bytes ⌝ }
     ensures { λ _. ⌜ now (bytes .exit) ≡ sets (now (bytes .entry)) 0 (two number ++ (count ∷ zeros 13)) ⌝ }
 {
     put_two(number, 0, bytes);
@@ -211,7 +213,7 @@ fn put_head(number: u16, count: u8, bytes: &mut [u8])
 
 // Stores the check of the bytes before it.
 fn put_check(bytes: &mut [u8])
-    requires { ⌜ length (now bytes) ≡ 512 ⌝ }
+    requires { ⌜ length (now bytes) ≡ block-bytes ⌝ }
     ensures { λ _. ⌜ now (bytes .exit) ≡ sets (now (bytes .entry)) 510 (two (checkOf (now (bytes .entry)))) ⌝ }
 {
     let check = weighted_sum(bytes) % 65521;
@@ -220,7 +222,7 @@ fn put_check(bytes: &mut [u8])
 
 // Stores a whole claim block.
 fn put_block(number: u16, block: Block, bytes: &mut [u8])
-    requires { ⌜ length (now bytes) ≡ 512 ⌝ }
+    requires { ⌜ length (now bytes) ≡ block-bytes ⌝ }
     requires { ⌜ block .count ≤ 15 ⌝ }
     ensures { λ _. ⌜ now (bytes .exit) ≡ blockBytes number (take (block .count) (block .claims)) ⌝ }
 {
@@ -234,7 +236,7 @@ fn put_block(number: u16, block: Block, bytes: &mut [u8])
 
 // Stores block 0 of a window.
 fn put_window(first: Date, last: Date, bytes: &mut [u8])
-    requires { ⌜ length (now bytes) ≡ 512 ⌝ }
+    requires { ⌜ length (now bytes) ≡ block-bytes ⌝ }
     ensures { λ _. ⌜ now (bytes .exit) ≡ windowBytes first last ⌝ }
 {
     put_head(0, 0, bytes);
@@ -258,7 +260,7 @@ pub fn write(number: u32, block: Block, bytes: &mut [u8]) -> u8
     if block.count > 15 {
         return refusal::BLOCK;
     }
-    if bytes.len() != 512 {
+    if bytes.len() != BLOCK_BYTES {
         return refusal::BLOCK;
     }
     put_block(number as u16, block, bytes);
@@ -267,10 +269,10 @@ pub fn write(number: u32, block: Block, bytes: &mut [u8]) -> u8
 
 // Writes block 0 of a window: 0, or 11 with the bytes as they were.
 pub fn write_window(first: Date, last: Date, bytes: &mut [u8]) -> u8
-    ensures { λ r. ⌜ r ≡ pick (eqb (length (now (bytes .entry))) 512) 0 11 ⌝ }
+    ensures { λ r. ⌜ r ≡ pick (eqb (length (now (bytes .entry))) block-bytes) 0 11 ⌝ }
     ensures { λ r. ⌜ now (bytes .exit) ≡ windowAfter first last (now (bytes .entry)) ⌝ }
 {
-    if bytes.len() != 512 {
+    if bytes.len() != BLOCK_BYTES {
         return refusal::BLOCK;
     }
     put_window(first, last, bytes);

@@ -5,6 +5,7 @@ ghost use mathlib.Core.Bool.{true};
 ghost use Prim.Native.Nat.{_/_, _≤_};
 ghost use denote.Ref.{now};
 ghost use lib.ListN.{length};
+ghost use Rattle.basics.specs.Limits.{block-bytes, most-records};
 ghost use Rattle.claim_file.specs.Corrections.{fileRecords, soundBlocks, allSound, lastOnes, recordsAdded, correctedRun};
 ghost use Rattle.claim_file.specs.Marks.{numbersOf, MarksSuperseded, unlessSuperseded, unsoundAt};
 use crate::CorrectedRun;
@@ -15,18 +16,20 @@ use crate::bytes::date_at;
 use crate::superseded::is_marked;
 use crate::superseded::mark_superseded;
 use crate::superseded::record_count;
+use basics::limits::BLOCK_BYTES;
+use basics::limits::MOST_RECORDS;
 use basics::refusal;
 use claim_months::Claim;
 use study::Study;
 
 // How many of a file's whole blocks are sound, up to the first that isn't.
 fn sound_blocks(file: &[u8]) -> u32
-    ensures { λ r. ⌜ r ≡ soundBlocks 0 (now (file .entry)) (length (now (file .entry)) / 512) ⌝ }
+    ensures { λ r. ⌜ r ≡ soundBlocks 0 (now (file .entry)) (length (now (file .entry)) / block-bytes) ⌝ }
 {
     let mut due: u32 = 0;
-    while (due as usize) < file.len() / 512 {
-        let at = 512 * due as usize;
-        if !is_sound(&file[at..at + 512], due) {
+    while (due as usize) < file.len() / BLOCK_BYTES {
+        let at = BLOCK_BYTES * due as usize;
+        if !is_sound(&file[at..at + BLOCK_BYTES], due) {
             return due;
         }
         due += 1;
@@ -88,7 +91,7 @@ fn add_record(
 // The records that are not marked, added to a study up to the first refusal.
 fn add_kept(rates: &[u32], file: &[u8], marks: &[u8], study: Study) -> CorrectedRun
     requires { ⌜ allSound (now file) ≡ true ⌝ }
-    requires { ⌜ length (fileRecords (now file)) ≤ 60000 ⌝ }
+    requires { ⌜ length (fileRecords (now file)) ≤ most-records ⌝ }
     requires { ⌜ length (now marks) ≡ 7500 ⌝ }
     requires { ⌜ MarksSuperseded (now marks) (numbersOf (fileRecords (now file))) ⌝ }
     ensures { λ r. ⌜ r ≡ recordsAdded (now (rates .entry)) study (lastOnes (fileRecords (now (file .entry)))) ⌝ }
@@ -101,9 +104,9 @@ fn add_kept(rates: &[u32], file: &[u8], marks: &[u8], study: Study) -> Corrected
     };
     let mut index = 0;
     let mut block: u32 = 1;
-    'file: while (block as usize) < file.len() / 512 {
-        let at = 512 * block as usize;
-        let bytes = &file[at..at + 512];
+    'file: while (block as usize) < file.len() / BLOCK_BYTES {
+        let at = BLOCK_BYTES * block as usize;
+        let bytes = &file[at..at + BLOCK_BYTES];
         let count = bytes[2];
         let mut place = 0;
         while place < count {
@@ -135,7 +138,7 @@ pub fn run_corrected(rates: &[u32], file: &[u8]) -> CorrectedRun
     if sound == 0 {
         return unsound_at(sound);
     }
-    if 512 * sound as usize != file.len() {
+    if BLOCK_BYTES * sound as usize != file.len() {
         return unsound_at(sound);
     }
     let answer = Study::open(date_at(file, 16), date_at(file, 20));
@@ -148,7 +151,7 @@ pub fn run_corrected(rates: &[u32], file: &[u8]) -> CorrectedRun
             place: 0,
         };
     }
-    if record_count(file) > 60000 {
+    if record_count(file) > MOST_RECORDS {
         return CorrectedRun {
             study,
             refused: refusal::TOO_MANY_RECORDS,

@@ -15,7 +15,7 @@ use claim_file::corrections::run_corrected;
 use claim_file::run::run_file;
 use claim_months::Claim;
 use study::Study;
-use study::Sums;
+use study::sums::sum_at;
 use test_support::lists::counting;
 use test_support::lists::differences;
 use test_support::lists::filled;
@@ -28,23 +28,12 @@ fn put_end() {
     put(b"\n");
 }
 
-fn put_counts(counts: [u32; 5]) {
-    put_next(counts[0] as u64);
-    put_next(counts[1] as u64);
-    put_next(counts[2] as u64);
-    put_next(counts[3] as u64);
-    put_next(counts[4] as u64);
-}
-
 // A group's number, thirtieths, closing counts and expected recoveries and deaths.
-fn put_group(sums: Sums, number: u8) {
-    let figures = sums.group(number);
-    let closings = figures.closings;
+fn put_group(sums: &[i64; 80], number: u8) {
     put_next(number as u64);
-    put_next_signed(bits(figures.thirtieths));
-    put_counts(closings);
-    put_next_signed(bits(figures.recoveries));
-    put_next_signed(bits(figures.deaths));
+    for column in 0..8 {
+        put_next_signed(bits(sum_at(sums, number, column)));
+    }
     put_end();
 }
 
@@ -55,11 +44,11 @@ fn put_study(study: Study) {
     put_next(study.window.first.0 as u64);
     put_next(study.window.last.0 as u64);
     put_end();
-    put_group(sums, 1);
-    put_group(sums, 2);
-    put_group(sums, 3);
-    put_group(sums, 4);
-    put_group(sums, 5);
+    put_group(&sums, 1);
+    put_group(&sums, 2);
+    put_group(&sums, 3);
+    put_group(&sums, 4);
+    put_group(&sums, 5);
 }
 
 // The number refused, block and place, and the study.

@@ -3,6 +3,7 @@ use Prim.Native.Nat.{ℕ, _+_, _-_, _/_}
 use mathlib.Core.Bool.{Bool, not, _&&_, _||_}
 use lib.Dec.{leb, eqb}
 use Rattle.calendar.specs.declared.Date.{Date}
+use Rattle.basics.specs.Limits.{most-benefit}
 use Rattle.basics.specs.Pick.{pick}
 use Rattle.basics.specs.Checks.{check, _then_, refuse-date, refuse-status, refuse-sequence, refuse-benefit, refuse-short-elimination}
 use Rattle.calendar.specs.Calendar.{isDate, dayNumber}
@@ -60,7 +61,7 @@ sequenceSound c = leb (dayNumber (c .disability)) (bcdDay c) && (not (isClosed c
 
 -- 16, benefit: over 200, in hundreds of dollars a month (document 02, No. 7)
 unfoldable pub benefitSound : Claim → Bool
-benefitSound c = leb (c .benefit) 200
+benefitSound c = leb (c .benefit) most-benefit
 
 -- what a claim weighs: its benefit; a 0 is kept in the record and weighs as 1
 unfoldable pub weight : Claim → ℕ

@@ -12,6 +12,7 @@ use crate::ClaimDays;
 use crate::MaybeChecked;
 use crate::MaybeDays;
 use crate::sound_claim::sound_claim;
+use basics::limits::MOST_BENEFIT;
 use basics::refusal;
 use calendar::Date;
 use calendar::Day;
@@ -116,7 +117,7 @@ fn days_check(claim: Claim, days: ClaimDays) -> u8
     if !sequence_sound(claim.status == 1, days) {
         return refusal::SEQUENCE;
     }
-    if claim.benefit > 200 {
+    if claim.benefit > MOST_BENEFIT {
         return refusal::BENEFIT;
     }
     if elimination(days) < 15 {

@@ -12,8 +12,7 @@ use Rattle.claim_months.specs.declared.Claim.{Claim}
 use Rattle.claim_months.specs.Claim.{claimCheck}
 use Rattle.claim_months.specs.Windows.{windowCheck}
 use Rattle.rates.specs.Rates.{rateCheck}
-use Rattle.study.specs.Study.{studyOf}
-use Rattle.study.specs.Demand3.{ownRefusal}
+use Rattle.study.specs.Study.{studyOf, ownRefusal}
 use Rattle.study.proofs.SumOver.{All}
 use Rattle.study.proofs.Capacity.{Accepted}
 use Rattle.claim_file.specs.declared.WindowDates.{WindowDates}

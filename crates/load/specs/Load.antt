@@ -5,6 +5,7 @@ use mathlib.Core.Bool.{Bool, true, _&&_}
 use mathlib.Core.List.{List, [], _∷_, _++_}
 use lib.ListN.{length, getD, take, drop}
 use lib.Dec.{leb, eqb}
+use Rattle.basics.specs.Limits.{most-claims}
 use Rattle.basics.specs.Pick.{pick}
 use Rattle.basics.specs.Checks.{_then_, refuse-load}
 use Rattle.calendar.specs.declared.Date.{Date}
@@ -74,7 +75,7 @@ loadClaim x number =
 
 -- 20: another seed or size, or a claim number outside 1 to the size
 unfoldable pub stepSound : ℕ → ℕ → ℕ → Bool
-stepSound x size number = seedSound x && leb size 500000 && leb 1 number && leb number size
+stepSound x size number = seedSound x && leb size most-claims && leb 1 number && leb number size
 
 -- a step
 unfoldable pub loadStep : ℕ → ℕ → ℕ → MaybeLoaded
@@ -110,7 +111,7 @@ loadFile w x size = windowBytes (w .first) (w .last) ++ loadBlocks x size
 pub record Rebuildable : Type 0 where
   -- an answer's x is again a seed, so no load breaks off: every step of it is answered with its claim
   pub seeds : (x : ℕ) → seedSound x ≡ true → seedSound (drawn 5 x) ≡ true
-  pub steps : (x size i : ℕ) → seedSound x ≡ true → size ≤ 500000 → i < size
+  pub steps : (x size i : ℕ) → seedSound x ≡ true → size ≤ most-claims → i < size
       → loadStep (seedAt x i) size (suc i) ≡ Loaded (record { claim = getD (load x size) i noClaim; x = seedAt x (suc i) })
   -- every generated claim passes the checks 1 to 5 and 16 in every sound window
   pub passes : (x number b e : ℕ) → seedSound x ≡ true → windowCheck b e ≡ 0 → (windowCheck b e then claimCheck (loadClaim x number)) ≡ 0
@@ -118,7 +119,7 @@ pub record Rebuildable : Type 0 where
   pub size-so : (x size : ℕ) → length (load x size) ≡ size
   pub numbers : (x size i : ℕ) → i < size → getD (load x size) i noClaim .number ≡ suc i
   -- its blocks, written and read back, give the load
-  pub read-back : (x size : ℕ) → seedSound x ≡ true → size ≤ 500000 → fileClaims (loadBlocks x size) ≡ load x size
+  pub read-back : (x size : ℕ) → seedSound x ≡ true → size ≤ most-claims → fileClaims (loadBlocks x size) ≡ load x size
   -- and a file of them with a sound window and a sound table runs unrefused, with all claims taken
-  pub runs : (rates : List ℕ) (w : WindowDates) (x size : ℕ) → Accepts w → rateCheck rates 0 ≡ 0 → seedSound x ≡ true → size ≤ 500000
+  pub runs : (rates : List ℕ) (w : WindowDates) (x size : ℕ) → Accepts w → rateCheck rates 0 ≡ 0 → seedSound x ≡ true → size ≤ most-claims
       → (fileRun rates (loadFile w x size) .refused ≡ 0) × (fileRun rates (loadFile w x size) .study ≡ studyOf (windowDays w) rates (load x size))

@@ -5,6 +5,7 @@ ghost use Rattle.calendar.specs.Calendar.{dateOf, lastDayNumber};
 ghost use Rattle.claim_file.specs.BlockAnswers.{noDate};
 ghost use Rattle.load.specs.Load.{draw, drawn, loadClaim, stepSound, loadStep};
 ghost use Rattle.load.specs.Private.{endingOf};
+use basics::limits::MOST_CLAIMS;
 use basics::refusal;
 use calendar::Date;
 use calendar::Day;
@@ -118,7 +119,7 @@ fn is_step(x: u32, size: u32, number: u32) -> bool
     if x > 2147483646 {
         return false;
     }
-    if size > 500000 {
+    if size > MOST_CLAIMS {
         return false;
     }
     if number < 1 {

@@ -5,6 +5,7 @@ use mathlib.Core.Path.{_≡_}
 use mathlib.Core.Bool.{true}
 use mathlib.Core.List.{List}
 use lib.ListN.{take, drop}
+use Rattle.basics.specs.Limits.{most-claims}
 use Rattle.calendar.specs.declared.Date.{Date}
 use Rattle.calendar.specs.declared.MaybeDate.{MaybeDate}
 use Rattle.calendar.specs.declared.MaybeDate.the-variants.{Found, NoDate}
@@ -22,7 +23,7 @@ SeedAsked (Number n) = seedSound n ≡ true
 SeedAsked NoNumber = Unit {0}
 
 abbrev pub SizeAsked : MaybeNumber → Type 0
-SizeAsked (Number n) = n ≤ 500000
+SizeAsked (Number n) = n ≤ most-claims
 SizeAsked NoNumber = Unit {0}
 
 abbrev pub LastAsked : Date → MaybeDate → Type 0
@@ -31,7 +32,7 @@ LastAsked first NoDate = Unit {0}
 
 pub record LoadAsked (a : Asked) : Type 0 where
   pub seed-so : seedSound (a .seed) ≡ true
-  pub size-so : a .size ≤ 500000
+  pub size-so : a .size ≤ most-claims
   pub window-so : datesWindow (a .first) (a .last) ≡ true
 
 abbrev pub SoundAsked : MaybeAsked → Type 0

@@ -3,13 +3,14 @@ use Prim.Native.Nat.{ℕ, suc, _-_, _≤_, min}
 use mathlib.Core.Path.{_≡_}
 use mathlib.Core.Bool.{true}
 use lib.ListN.{take}
+use Rattle.basics.specs.Limits.{most-claims}
 use Rattle.load.specs.Load.{seedSound, loadFrom, seedAt}
 use Rattle.ltd_load.specs.declared.LoadedBlock.{LoadedBlock}
 
 -- a claim of a load is due
 pub record Due (x size number : ℕ) : Type 0 where
   pub seed-so : seedSound x ≡ true
-  pub size-so : size ≤ 500000
+  pub size-so : size ≤ most-claims
   pub number-low : 1 ≤ number
   pub number-high : number ≤ size
 

@@ -5,6 +5,7 @@ use crate::MaybeAsked;
 use crate::MaybeNumber;
 use crate::words::date_in;
 use crate::words::number_in;
+use basics::limits::MOST_CLAIMS;
 use calendar::Date;
 use calendar::MaybeDate;
 use claim_months::MaybeWindow;
@@ -99,7 +100,7 @@ fn size() -> MaybeNumber
     ensures { λ r. ⌜ SizeAsked r ⌝ }
 {
     if let MaybeNumber::Number(size) = number_at(2) {
-        if size <= 500000 {
+        if size <= MOST_CLAIMS {
             return MaybeNumber::Number(size);
         }
     }

@@ -121,32 +121,12 @@ fn feed_bytes(
     table: &[u32],
     block: &[u8; 512],
     count: usize,
-    thirtieths: &mut [i64; 5],
-    closings: &mut [u32; 25],
-    recoveries: &mut [i64; 5],
-    deaths: &mut [i64; 5],
-    weighted_thirtieths: &mut [i64; 5],
-    weighted_closings: &mut [u32; 25],
-    weighted_recoveries: &mut [i64; 5],
-    weighted_deaths: &mut [i64; 5],
+    sums: &mut [i64; 80],
 ) -> LentRun
     requires { ⌜ count ≤ 512 ⌝ }
 {
     let bytes: &[u8] = block;
-    feed_lent(
-        Kind::Prepared,
-        table,
-        &bytes[0..count],
-        run,
-        thirtieths,
-        closings,
-        recoveries,
-        deaths,
-        weighted_thirtieths,
-        weighted_closings,
-        weighted_recoveries,
-        weighted_deaths,
-    )
+    feed_lent(Kind::Prepared, table, &bytes[0..count], run, sums)
 }
 
 // How many bytes of a block are fed. A failed read must not look like the end of the file, so it counts as a part block.
@@ -163,33 +143,13 @@ fn fed_count(filled: Filled) -> usize
 // The file run of standard input, block by block. A proved loop has to end, and nothing says that the input does: the loop counts its
 // turns down, from a number that no run uses up. The sums stand here and are lent: a run that had them would be a copy on the stack with each block.
 fn run_input(table: &[u32]) -> FileRun {
-    let mut thirtieths = [0i64; 5];
-    let mut closings = [0u32; 25];
-    let mut recoveries = [0i64; 5];
-    let mut deaths = [0i64; 5];
-    let mut weighted_thirtieths = [0i64; 5];
-    let mut weighted_closings = [0u32; 25];
-    let mut weighted_recoveries = [0i64; 5];
-    let mut weighted_deaths = [0i64; 5];
+    let mut sums = [0i64; 80];
     let mut run = LentRun::start();
     let mut block = [0u8; 512];
     let mut turns = u64::MAX;
     while turns > 0 {
         let count = fed_count(fill_block(STDIN_FILENO, &mut block));
-        run = feed_bytes(
-            run,
-            table,
-            &block,
-            count,
-            &mut thirtieths,
-            &mut closings,
-            &mut recoveries,
-            &mut deaths,
-            &mut weighted_thirtieths,
-            &mut weighted_closings,
-            &mut weighted_recoveries,
-            &mut weighted_deaths,
-        );
+        run = feed_bytes(run, table, &block, count, &mut sums);
         if run.refused != 0 {
             break;
         }
@@ -198,16 +158,7 @@ fn run_input(table: &[u32]) -> FileRun {
         }
         turns -= 1;
     }
-    let run = run.with_sums(
-        thirtieths,
-        closings,
-        recoveries,
-        deaths,
-        weighted_thirtieths,
-        weighted_closings,
-        weighted_recoveries,
-        weighted_deaths,
-    );
+    let run = run.with_sums(sums);
     run.end()
 }
 

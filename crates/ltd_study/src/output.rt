@@ -33,7 +33,7 @@ fn print_line(run: FileRun, number: u8, line: &mut [u8]) {
 
 // Prints the table of a run's study, or where it was refused.
 pub fn print_run(run: FileRun) {
-    let mut line = [0u8; 160];
+    let mut line = [0u8; 200];
     for number in 0..6 {
         print_line(run, number, &mut line);
     }

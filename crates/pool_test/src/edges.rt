@@ -1,10 +1,10 @@
 // Studies that no opening made, joined at the edges of the checks 1, 15 and 9.
+ghost use Prim.Native.Nat.{_<_};
 use crate::figures::figures;
 use crate::figures::put_same;
 use calendar::Day;
 use claim_months::Window;
 use study::Study;
-use study::Sums;
 use test_support::numbers::bits;
 use test_support::print::put;
 use test_support::print::put_next;
@@ -59,40 +59,27 @@ pub(crate) fn edges() {
     about(b"weighted deaths", 5, WEIGHTED_EXPECTED);
 }
 
-// Sums with thirtieths in group 3, a count of limits in group 5, expected recoveries in group 4 and deaths in group 1.
-fn sums(thirtieths: i64, count: u32, recoveries: i64, deaths: i64) -> Sums {
-    let exposed = [0, 0, thirtieths, 0, 0];
-    let mut closings = [0; 25];
-    closings[24] = count;
-    let expected_recoveries = [0, 0, 0, recoveries, 0];
-    let expected_deaths = [deaths, 0, 0, 0, 0];
-    Sums {
-        thirtieths: exposed,
-        closings,
-        recoveries: expected_recoveries,
-        deaths: expected_deaths,
-    }
-}
-
-fn nothing() -> Sums {
-    sums(0, 0, 0, 0)
-}
-
-fn made(first: u32, last: u32, taken: u32, sums: Sums, weighted: Sums) -> Study {
+// A study of a window with claims taken and zero sums.
+fn made(first: u32, last: u32, taken: u32) -> Study {
     Study {
         window: Window {
             first: Day(first),
             last: Day(last),
         },
         taken,
-        sums,
-        weighted,
+        sums: [0; 80],
     }
 }
 
-// A study of ten days with one claim.
-fn with_sums(sums: Sums, weighted: Sums) -> Study {
-    made(0, 9, 1, sums, weighted)
+// A study of ten days with one claim, and a number at a place of its sums.
+fn with_number(place: usize, number: i64) -> Study
+    requires { ⌜ place < 80 ⌝ }
+{
+    let mut study = made(0, 9, 1);
+    let mut sums = study.sums;
+    sums[place] = number;
+    study.sums = sums;
+    study
 }
 
 // Joins two studies. Prints the number refused and whether the first study came back, or the claims taken and each set's four numbers.
@@ -146,10 +133,7 @@ fn window(first: u32, last: u32, other_first: u32, other_last: u32, taken: u32) 
     put_next(other_first as u64);
     put_next(other_last as u64);
     put_next(taken as u64);
-    show(
-        made(first, last, 0, nothing(), nothing()),
-        made(other_first, other_last, taken, nothing(), nothing()),
-    );
+    show(made(first, last, 0), made(other_first, other_last, taken));
 }
 
 // Up to 500,000 claims together, past them, and past 32 bits.
@@ -170,10 +154,7 @@ fn taken(one: u32, other: u32) {
     put(b"claims");
     put_next(one as u64);
     put_next(other as u64);
-    show(
-        made(0, 9, one, nothing(), nothing()),
-        made(0, 9, other, nothing(), nothing()),
-    );
+    show(made(0, 9, one), made(0, 9, other));
 }
 
 fn counts() {
@@ -187,37 +168,36 @@ fn counts() {
     weighted_count(100000001, 0);
     weighted_count(0, 100000001);
     weighted_count(4294967295, 1);
+    count(-1, 1);
+    count(1, -1);
+    weighted_count(-1, 1);
+    weighted_count(1, -1);
 }
 
-fn count(one: u32, other: u32) {
+// A count of limits in group 5.
+fn count(one: i64, other: i64) {
     put(b"counts");
-    put_next(one as u64);
-    put_next(other as u64);
-    show(
-        with_sums(sums(0, one, 0, 0), nothing()),
-        with_sums(sums(0, other, 0, 0), nothing()),
-    );
+    put_next_signed(bits(one));
+    put_next_signed(bits(other));
+    show(with_number(37, one), with_number(37, other));
 }
 
-fn weighted_count(one: u32, other: u32) {
+fn weighted_count(one: i64, other: i64) {
     put(b"weighted counts");
-    put_next(one as u64);
-    put_next(other as u64);
-    show(
-        with_sums(nothing(), sums(0, one, 0, 0)),
-        with_sums(nothing(), sums(0, other, 0, 0)),
-    );
+    put_next_signed(bits(one));
+    put_next_signed(bits(other));
+    show(with_number(77, one), with_number(77, other));
 }
 
-// A number as one of the six sums of a study.
-fn with_number(field: u8, number: i64) -> Study {
+// A number as one of six sums: thirtieths of group 3, expected recoveries of group 4, expected deaths of group 1, and the weighted ones.
+fn with_sum(field: u8, number: i64) -> Study {
     match field {
-        0 => with_sums(sums(number, 0, 0, 0), nothing()),
-        1 => with_sums(sums(0, 0, number, 0), nothing()),
-        2 => with_sums(sums(0, 0, 0, number), nothing()),
-        3 => with_sums(nothing(), sums(number, 0, 0, 0)),
-        4 => with_sums(nothing(), sums(0, 0, number, 0)),
-        _ => with_sums(nothing(), sums(0, 0, 0, number)),
+        0 => with_number(16, number),
+        1 => with_number(30, number),
+        2 => with_number(7, number),
+        3 => with_number(56, number),
+        4 => with_number(70, number),
+        _ => with_number(47, number),
     }
 }
 
@@ -225,7 +205,7 @@ fn sum(name: &[u8], field: u8, one: i64, other: i64) {
     put(name);
     put_next_signed(bits(one));
     put_next_signed(bits(other));
-    show(with_number(field, one), with_number(field, other));
+    show(with_sum(field, one), with_sum(field, other));
 }
 
 // A sum at either bound, past it in either study or in both together, back within it, and the ends of 64 bits.

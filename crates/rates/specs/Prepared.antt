@@ -6,6 +6,7 @@ use mathlib.Core.List.{List, [], _∷_, _++_}
 use lib.ListN.{length, getD, set, take, drop}
 use lib.Dec.{leb, ltb, eqb}
 use lib.IntN.{ℤ, pos, _-ℤ_}
+use Rattle.basics.specs.Limits.{cell-numbers}
 use Rattle.basics.specs.Pick.{pick}
 use Rattle.basics.specs.Checks.{check, _then_, refuse-rate-table, refuse-cell, refuse-rate}
 use Rattle.basics.specs.Series.{sumTo}
@@ -34,7 +35,7 @@ preparedCell cell =
 -- the first n cells of some rates prepared
 unfoldable pub preparedCells : List ℕ → ℕ → List ℕ
 preparedCells rates zero = []
-preparedCells rates (suc n) = preparedCell (take 958 rates) ++ preparedCells (drop 958 rates) n
+preparedCells rates (suc n) = preparedCell (take cell-numbers rates) ++ preparedCells (drop cell-numbers rates) n
 
 -- the prepared table of some rates: its mark is 1
 unfoldable pub prepared : List ℕ → List ℕ
@@ -57,7 +58,7 @@ unfoldable pub preparedCheck : List ℕ → ℕ → ℕ
 preparedCheck table cell =
     check (marked table 1) refuse-rate-table
     then check (ltb cell (cells (cellNumbers table))) refuse-cell
-    then check (leb (getD table (cell * 958) 0) 1000000) refuse-rate
+    then check (leb (getD table (cell * cell-numbers) 0) 1000000) refuse-rate
 
 -- The rate at a duration of running sums that start at a place: what is added there; a later duration than 480 uses 480's
 unfoldable pub sumBefore : List ℕ → ℕ → ℕ → ℤ
@@ -74,11 +75,11 @@ checkOf Prepared table cell = preparedCheck table cell
 
 unfoldable pub recoveryOf : Kind → List ℕ → ℕ → ℕ → ℤ
 recoveryOf Plain table cell d = pos (recoveryRate table cell d)
-recoveryOf Prepared table cell d = preparedRate table (cell * 958) d
+recoveryOf Prepared table cell d = preparedRate table (cell * cell-numbers) d
 
 unfoldable pub deathOf : Kind → List ℕ → ℕ → ℕ → ℤ
 deathOf Plain table cell d = pos (deathRate table cell d)
-deathOf Prepared table cell d = preparedRate table (cell * 958 + 479) d
+deathOf Prepared table cell d = preparedRate table (cell * cell-numbers + 479) d
 
 -- the sum of the rates at n durations from d on, past 480 too; none is before 2
 unfoldable pub ratesOver : (ℕ → ℤ) → ℕ → ℕ → ℤ

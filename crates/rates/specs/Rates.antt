@@ -5,27 +5,28 @@ use mathlib.Core.Bool.{Bool, true, _&&_}
 use mathlib.Core.List.{List}
 use lib.ListN.{length, getD}
 use lib.Dec.{leb, ltb, eqb}
+use Rattle.basics.specs.Limits.{cell-numbers, last-duration}
 use Rattle.basics.specs.Pick.{pick}
 use Rattle.basics.specs.Checks.{check, _then_, refuse-rate-table, refuse-cell, refuse-rate}
 
 -- the number of cells of a table
 unfoldable pub cells : List ℕ → ℕ
-cells rates = length rates / 958
+cells rates = length rates / cell-numbers
 
 -- the place of a duration among a cell's 479 rates of one kind; a later duration than 480 uses 480's
 unfoldable pub place : ℕ → ℕ
-place d = min d 480 - 2
+place d = min d last-duration - 2
 
 -- the recovery rate of a cell at a duration, and the death rate
 unfoldable pub recoveryRate : List ℕ → ℕ → ℕ → ℕ
-recoveryRate rates cell d = getD rates (cell * 958 + place d) 0
+recoveryRate rates cell d = getD rates (cell * cell-numbers + place d) 0
 
 unfoldable pub deathRate : List ℕ → ℕ → ℕ → ℕ
-deathRate rates cell d = getD rates (cell * 958 + 479 + place d) 0
+deathRate rates cell d = getD rates (cell * cell-numbers + 479 + place d) 0
 
 -- 6, rate table: length not 958 times 1 to 1,024
 unfoldable pub lengthSound : ℕ → Bool
-lengthSound n = eqb (n % 958) 0 && leb 1 (n / 958) && leb (n / 958) 1024
+lengthSound n = eqb (n % cell-numbers) 0 && leb 1 (n / cell-numbers) && leb (n / cell-numbers) 1024
 
 abbrev pub tableSound : List ℕ → Bool
 tableSound rates = lengthSound (length rates)

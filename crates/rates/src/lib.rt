@@ -3,12 +3,15 @@ ghost use mathlib.Core.Path.{_≡_};
 ghost use Prim.Native.Nat.{_+_, _*_, _≤_};
 ghost use lib.ListN.{getD};
 ghost use denote.Ref.{now};
+ghost use Rattle.basics.specs.Limits.{cell-numbers};
 ghost use Rattle.rates.specs.Rates.{place, lengthSound, rateCheck, ratesSound, recoveryRate, deathRate, groupOf, lastOf, groupLast};
 ghost use Rattle.rates.specs.Private.{oneAbove};
 
 pub mod prepared;
 
 use basics::Duration;
+use basics::limits::CELL_NUMBERS;
+use basics::limits::LAST_DURATION;
 use basics::refusal;
 
 // A cell of a rate table. A unit of its own.
@@ -41,7 +44,7 @@ pub(crate) fn place_of(duration: Duration) -> usize
     if months < 2 {
         return 0;
     }
-    if months > 480 {
+    if months > LAST_DURATION {
         return 478;
     }
     (months - 2) as usize
@@ -49,9 +52,9 @@ pub(crate) fn place_of(duration: Duration) -> usize
 
 // The rate of a cell at a duration, of the kind whose rates start `from` places into the cell; 0 past the table.
 pub(crate) fn rate(rates: &[u32], cell: Cell, from: u16, duration: Duration) -> u32
-    ensures { λ r. ⌜ r ≡ getD (now (rates .entry)) (cell .0 * 958 + from + place (duration .0)) 0 ⌝ }
+    ensures { λ r. ⌜ r ≡ getD (now (rates .entry)) (cell .0 * cell-numbers + from + place (duration .0)) 0 ⌝ }
 {
-    let at = cell.0 as usize * 958 + from as usize + place_of(duration);
+    let at = cell.0 as usize * CELL_NUMBERS + from as usize + place_of(duration);
     if at < rates.len() {
         return rates[at];
     }
@@ -92,8 +95,8 @@ pub(crate) fn sound(rates: &[u32], cell: Cell) -> bool
 pub(crate) fn is_table(numbers: usize) -> bool
     ensures { λ r. ⌜ r ≡ lengthSound numbers ⌝ }
 {
-    let cells = numbers / 958;
-    if numbers % 958 != 0 {
+    let cells = numbers / CELL_NUMBERS;
+    if numbers % CELL_NUMBERS != 0 {
         return false;
     }
     if cells < 1 {
@@ -109,7 +112,7 @@ pub fn check(rates: &[u32], cell: Cell) -> u8
     if !is_table(rates.len()) {
         return refusal::RATE_TABLE;
     }
-    if cell.0 as usize >= rates.len() / 958 {
+    if cell.0 as usize >= rates.len() / CELL_NUMBERS {
         return refusal::CELL;
     }
     if sound(rates, cell) {

@@ -4,6 +4,7 @@ ghost use Prim.Native.Nat.{ℕ, _+_, _*_, _≤_, _<_};
 ghost use lib.IntN.{pos, natAbs, _+ℤ_, _-ℤ_, _*ℤ_};
 ghost use lib.ListN.{length, getD};
 ghost use denote.Ref.{now};
+ghost use Rattle.basics.specs.Limits.{cell-numbers};
 ghost use Rattle.rates.specs.Rates.{place};
 ghost use Rattle.rates.specs.Prepared.{runningFrom, preparedCell, marked, prepareCheck, prepareAfter, preparedCheck, sumBefore, preparedRate, checkOf, recoveryOf, deathOf, ratesOver};
 ghost use Rattle.rates.specs.Private.{PlacesOf, placesSum};
@@ -17,6 +18,8 @@ use crate::place_of;
 use crate::rate;
 use crate::sound;
 use basics::Duration;
+use basics::limits::CELL_NUMBERS;
+use basics::limits::LAST_DURATION;
 use basics::refusal;
 
 // Replaces numbers by their running sums.
@@ -34,7 +37,7 @@ fn run_sums(numbers: &mut [u32])
 
 // Prepares the 958 numbers of a cell.
 fn prepare_cell(cell: &mut [u32])
-    requires { ⌜ length (now cell) ≡ 958 ⌝ }
+    requires { ⌜ length (now cell) ≡ cell-numbers ⌝ }
     ensures { λ _. ⌜ now (cell .exit) ≡ preparedCell (now (cell .entry)) ⌝ }
 {
     if !sound(cell, Cell(0)) {
@@ -68,9 +71,9 @@ pub fn prepare(table: &mut [u32]) -> u8
         return refusal::RATE_TABLE;
     }
     let last = table.len() - 1;
-    for cell in 0..last / 958 {
-        let from = cell * 958;
-        let to = from + 958;
+    for cell in 0..last / CELL_NUMBERS {
+        let from = cell * CELL_NUMBERS;
+        let to = from + CELL_NUMBERS;
         prepare_cell(&mut table[from..to]);
     }
     table[last] = 1;
@@ -94,10 +97,10 @@ fn check_prepared(table: &[u32], cell: Cell) -> u8
     if !is_marked(table, 1) {
         return refusal::RATE_TABLE;
     }
-    if cell.0 as usize >= (table.len() - 1) / 958 {
+    if cell.0 as usize >= (table.len() - 1) / CELL_NUMBERS {
         return refusal::CELL;
     }
-    if number_at(table, cell.0 as usize * 958) > 1000000 {
+    if number_at(table, cell.0 as usize * CELL_NUMBERS) > 1000000 {
         return refusal::RATE;
     }
     0
@@ -115,7 +118,7 @@ pub fn check_of(kind: Kind, table: &[u32], cell: Cell) -> u8
 
 // The running sum before a place of the sums that start at a number; 0 before the first.
 fn sum_before(table: &[u32], at: usize, place: usize) -> u32
-    requires { ⌜ at ≤ 4294967295 * 958 + 479 ⌝ }
+    requires { ⌜ at ≤ 4294967295 * cell-numbers + 479 ⌝ }
     requires { ⌜ place < 479 ⌝ }
     ensures { λ r. ⌜ pos r ≡ sumBefore (now (table .entry)) at place ⌝ }
 {
@@ -166,7 +169,7 @@ fn with_later(sum: i64, later: u16, rate: i64) -> i64
 
 // The sum of the rates at some places of running sums that start at a number: past 480 the last difference again with each duration.
 fn prepared_sum(table: &[u32], at: usize, places: Places) -> i64
-    requires { ⌜ at ≤ 4294967295 * 958 + 479 ⌝ }
+    requires { ⌜ at ≤ 4294967295 * cell-numbers + 479 ⌝ }
     requires { ⌜ places .first ≤ places .last ⌝ }
     requires { ⌜ places .last ≤ 478 ⌝ }
     ensures { λ r. ⌜ r ≡ placesSum (now (table .entry)) at places ⌝ }
@@ -216,7 +219,7 @@ fn stored_sum(table: &[u32], at: usize, places: Places) -> i64
 
 // The sums of the rates of a cell whose running sums start at a number. Whether they are all in the table is looked at once.
 fn prepared_sums(table: &[u32], at: usize, from: Duration, months: u16) -> RateSums
-    requires { ⌜ at ≤ 4294967295 * 958 ⌝ }
+    requires { ⌜ at ≤ 4294967295 * cell-numbers ⌝ }
     ensures { λ r. ⌜ r .recoveries ≡ ratesOver (preparedRate (now (table .entry)) at) (from .0) months ⌝ }
     ensures { λ r. ⌜ r .deaths ≡ ratesOver (preparedRate (now (table .entry)) (at + 479)) (from .0) months ⌝ }
     ensures { λ r. ⌜ natAbs (r .recoveries) ≤ 4294967295 * months ⌝ }
@@ -229,7 +232,7 @@ fn prepared_sums(table: &[u32], at: usize, from: Duration, months: u16) -> RateS
         };
     }
     let places = places_of(from, months);
-    if at + 958 > table.len() {
+    if at + CELL_NUMBERS > table.len() {
         return RateSums {
             recoveries: prepared_sum(table, at, places),
             deaths: prepared_sum(table, at + 479, places),
@@ -243,7 +246,7 @@ fn prepared_sums(table: &[u32], at: usize, from: Duration, months: u16) -> RateS
 
 // The sum of the rates at some durations, of rates that start `from` places into a cell.
 fn plain_sum(table: &[u32], cell: Cell, from: u16, duration: Duration, months: u16) -> i64
-    ensures { λ r. ⌜ r ≡ ratesOver (λ d. pos (getD (now (table .entry)) (cell .0 * 958 + from + place d) 0)) (duration .0) months ⌝ }
+    ensures { λ r. ⌜ r ≡ ratesOver (λ d. pos (getD (now (table .entry)) (cell .0 * cell-numbers + from + place d) 0)) (duration .0) months ⌝ }
     ensures { λ r. ⌜ natAbs r ≤ 4294967295 * months ⌝ }
 {
     let mut sum: u64 = 0;
@@ -254,7 +257,7 @@ fn plain_sum(table: &[u32], cell: Cell, from: u16, duration: Duration, months: u
     let mut done: u16 = 0;
     while done < months {
         sum += rate(table, cell, from, Duration(next)) as u64;
-        if next < 480 {
+        if next < LAST_DURATION {
             next += 1;
         }
         done += 1;
@@ -269,7 +272,7 @@ pub fn rate_sums(kind: Kind, table: &[u32], cell: Cell, from: Duration, months: 
     ensures { λ r. ⌜ natAbs (r .recoveries) ≤ 4294967295 * months ⌝ }
     ensures { λ r. ⌜ natAbs (r .deaths) ≤ 4294967295 * months ⌝ }
 {
-    let at = cell.0 as usize * 958;
+    let at = cell.0 as usize * CELL_NUMBERS;
     match kind {
         Kind::Plain => RateSums {
             recoveries: plain_sum(table, cell, 0, from, months),

@@ -1,4 +1,4 @@
--- A number's digits: their number is the fewest that hold it, and at most 20 where the number has 64 bits, 10 where it has 32.
+-- A number's digits: their number is the fewest that hold it, and at most 20 where the number has 64 bits, 19 where it is a sum's size, 10 where it has 32 bits.
 -- Assumes nothing.
 use Prim.Native.Nat.{ℕ, zero, suc, _+_, _-_, _*_, _/_, _^_, _≤_, _<_}
 use mathlib.Core.Path.{_≡_, refl, sym, ap, _∙_}
@@ -81,9 +81,16 @@ up-to-short (suc more) (suc less) n h =
     let r = up-to-short more less (n / 10) (omega arith) in
     by (ltb n 10) (λ t. pick t 1 (suc (placesUpTo more (n / 10))) ≤ suc (suc less)) (λ q. omega arith) (λ q. omega arith)
 
-pub short-length : (n : ℕ) → n < 4294967296 → length (numberText n) ≤ 10
+text-length : (less n : ℕ) → n < 10 ^ suc less → length (numberText n) ≤ suc less
 unfolding numberText places
-short-length n h = let e = digits-length 10 (placesUpTo 19 n) n in let m = up-to-short 19 9 n (omega (arith, h)) in omega arith
+text-length less n h = let e = digits-length 10 (placesUpTo 19 n) n in let m = up-to-short 19 less n h in omega arith
+
+pub short-length : (n : ℕ) → n < 4294967296 → length (numberText n) ≤ 10
+short-length n h = text-length 9 n (omega (arith, h))
+
+-- the size of a sum
+pub size-length : (n : ℕ) → n ≤ 9223372036854775808 → length (numberText n) ≤ 19
+size-length n h = text-length 18 n (omega (arith, h))
 
 -- 0, 1027931, the largest number of 64 bits, and −30
 number-examples : (numberText 0 ≡ 48 ∷ []) × (numberText 1027931 ≡ 49 ∷ 48 ∷ 50 ∷ 55 ∷ 57 ∷ 51 ∷ 49 ∷ []) × (places 18446744073709551615 ≡ 20)

@@ -5,9 +5,8 @@ use mathlib.Core.Path.{_≡_, refl, ap, _∙_}
 use mathlib.Core.List.{List, [], _∷_, _++_}
 use native.Mathlib.Omega.{arith}
 use lib.ListN.{length, length-append}
-use lib.Seq.{sets}
+use lib.Seq.{sets, length-sets}
 use Rattle.basics.proofs.Stores.{run}
-use Rattle.report.specs.Text.{countColumn}
 use Rattle.report.specs.Private.{Put}
 
 module _ {l a : List ℕ} {at : ℕ} where
@@ -26,17 +25,13 @@ module _ {l a : List ℕ} {at : ℕ} where
         within = rw e at (p .within);
       }
 
-  -- the column of a count that is another
-  pub column : {x r m : ℕ} (n : ℕ) → Put m l at (countColumn x) a r → x ≡ n → Put m l at (countColumn n) a r
-  column n p e = renamed p (ap countColumn e)
-
   -- a text of at most so many bytes
   pub shorter : {xs : List ℕ} {r m : ℕ} (n : ℕ) → Put m l at xs a r → length xs ≤ n → Put n l at xs a r
   shorter n p h = record { stored = p .stored; behind = p .behind; within = h }
 
--- a text of at most one byte more
-pub wider : {l a : List ℕ} {at : ℕ} {xs : List ℕ} {r m : ℕ} → Put m l at xs a r → Put (m + 1) l at xs a r
-wider p = shorter _ p (omega arith)
+-- no list becomes longer or shorter
+pub length-kept : {l a xs : List ℕ} {at r m : ℕ} → Put m l at xs a r → length a ≡ length l
+length-kept {l} {a} {xs} {at} p = ap length (p .stored) ∙ length-sets l at xs
 
 -- nothing
 pub nothing : (l : List ℕ) (at n : ℕ) → Put n l at [] l at

@@ -7,9 +7,7 @@ use lib.Dec.{leb, ltb, eqb}
 use lib.IntN.{ℤ, pos, negsuc}
 use Rattle.io.specs.Digits.{digits}
 use Rattle.basics.specs.Pick.{pick}
-use Rattle.study.specs.declared.Sums.{Sums}
-use Rattle.study.specs.declared.Group.{Group}
-use Rattle.study.specs.Sums.{groupFigures}
+use Rattle.study.specs.Sums.{sumAt}
 use Rattle.valuation.specs.declared.MaybeFactor.{MaybeFactor}
 use Rattle.valuation.specs.declared.MaybeFactor.the-variants.{Known, Refused}
 use Rattle.valuation.specs.StudyFactor.{studyFactor}
@@ -39,15 +37,10 @@ countColumn n = 32 ∷ numberText n
 unfoldable pub sumColumn : ℤ → List ℕ
 sumColumn z = 32 ∷ signedText z
 
--- the five counts: recoveries, deaths, settlements, max-outs, limits
-unfoldable pub countColumns : List ℕ → List ℕ
-countColumns counts =
-    countColumn (getD counts 0 0)
-    ++ (countColumn (getD counts 1 0) ++ (countColumn (getD counts 2 0) ++ (countColumn (getD counts 3 0) ++ countColumn (getD counts 4 0))))
-
--- thirtieths, the five counts, both expected sums
-unfoldable pub figureColumns : Group → List ℕ
-figureColumns g = sumColumn (g .thirtieths) ++ (countColumns (g .closings) ++ (sumColumn (g .recoveries) ++ sumColumn (g .deaths)))
+-- the first n columns of a group: thirtieths; the counts of recoveries, deaths, settlements, max-outs, limits; both expected sums
+unfoldable pub sumColumns : List ℤ → ℕ → ℕ → List ℕ
+sumColumns sums group zero = []
+sumColumns sums group (suc n) = sumColumns sums group n ++ sumColumn (sumAt sums group n)
 
 -- T, and nothing where it is refused
 unfoldable pub factorColumn : MaybeFactor → List ℕ
@@ -55,8 +48,8 @@ factorColumn (Known f) = countColumn (f .t)
 factorColumn (Refused n) = []
 
 -- the line of a group
-unfoldable pub groupLine : Sums → ℕ → List ℕ
-groupLine sums group = numberText group ++ (figureColumns (groupFigures sums group) ++ (factorColumn (studyFactor sums group) ++ (10 ∷ [])))
+unfoldable pub groupLine : List ℤ → ℕ → List ℕ
+groupLine sums group = numberText group ++ (sumColumns sums group 8 ++ (factorColumn (studyFactor sums group) ++ (10 ∷ [])))
 
 -- "group exposure rec dea set max lim exprec expdea T" and the line's end
 unfoldable pub tableHead : List ℕ
@@ -66,7 +59,7 @@ tableHead =
     ∷ 84 ∷ 10 ∷ []
 
 -- the table: the head and the lines of the five groups
-unfoldable pub tableText : Sums → List ℕ
+unfoldable pub tableText : List ℤ → List ℕ
 tableText sums = tableHead ++ (groupLine sums 1 ++ (groupLine sums 2 ++ (groupLine sums 3 ++ (groupLine sums 4 ++ groupLine sums 5))))
 
 -- "refused N block B claim C" and the line's end

@@ -13,20 +13,19 @@ mod puts;
 
 use claim_file::FileRun;
 use columns::put_factor;
-use columns::put_figures;
+use columns::put_sums;
 use puts::put_byte;
 use puts::put_count;
 use puts::put_short;
 use puts::put_text;
-use study::Sums;
 
-// Puts the table's head into a list of at least 160 bytes, and answers its length.
+// Puts the table's head into a list of at least 200 bytes, and answers its length.
 pub fn head_line(line: &mut [u8]) -> usize
-    ensures { λ r. ⌜ r ≡ lineAnswer 160 (now (line .entry)) tableHead ⌝ }
-    ensures { λ _. ⌜ now (line .exit) ≡ lineAfter 160 (now (line .entry)) tableHead ⌝ }
+    ensures { λ r. ⌜ r ≡ lineAnswer 200 (now (line .entry)) tableHead ⌝ }
+    ensures { λ _. ⌜ now (line .exit) ≡ lineAfter 200 (now (line .entry)) tableHead ⌝ }
     ensures { λ r. ⌜ Counts r (now (line .exit)) ⌝ }
 {
-    if line.len() < 160 {
+    if line.len() < 200 {
         return 0;
     }
     put_text(
@@ -36,23 +35,23 @@ pub fn head_line(line: &mut [u8]) -> usize
     )
 }
 
-fn put_group(sums: Sums, group: u8, line: &mut [u8]) -> usize
-    requires { ⌜ 160 ≤ length (now line) ⌝ }
-    ensures { λ r. ⌜ Put 153 (now (line .entry)) 0 (groupLine sums group) (now (line .exit)) r ⌝ }
+fn put_group(sums: &[i64; 80], group: u8, line: &mut [u8]) -> usize
+    requires { ⌜ 200 ≤ length (now line) ⌝ }
+    ensures { λ r. ⌜ Put 200 (now (line .entry)) 0 (groupLine (now (sums .entry)) group) (now (line .exit)) r ⌝ }
 {
     let at = put_short(group as u32, 0, line);
-    let at = put_figures(sums.group(group), at, line);
+    let at = put_sums(sums, group, at, line);
     let at = put_factor(sums, group, at, line);
     put_byte(10, at, line)
 }
 
-// Puts the line of a group into a list of at least 160 bytes, and answers its length.
-pub fn group_line(sums: Sums, group: u8, line: &mut [u8]) -> usize
-    ensures { λ r. ⌜ r ≡ lineAnswer 160 (now (line .entry)) (groupLine sums group) ⌝ }
-    ensures { λ _. ⌜ now (line .exit) ≡ lineAfter 160 (now (line .entry)) (groupLine sums group) ⌝ }
+// Puts the line of a group into a list of at least 200 bytes, and answers its length.
+pub fn group_line(sums: &[i64; 80], group: u8, line: &mut [u8]) -> usize
+    ensures { λ r. ⌜ r ≡ lineAnswer 200 (now (line .entry)) (groupLine (now (sums .entry)) group) ⌝ }
+    ensures { λ _. ⌜ now (line .exit) ≡ lineAfter 200 (now (line .entry)) (groupLine (now (sums .entry)) group) ⌝ }
     ensures { λ r. ⌜ Counts r (now (line .exit)) ⌝ }
 {
-    if line.len() < 160 {
+    if line.len() < 200 {
         return 0;
     }
     put_group(sums, group, line)
@@ -83,13 +82,13 @@ pub fn refusal_line(number: u8, block: u32, place: u8, line: &mut [u8]) -> usize
     put_refusal(number, block, place, line)
 }
 
-// Puts a line of what a run prints, 0 to 5, into a list of at least 160 bytes, and answers its length.
+// Puts a line of what a run prints, 0 to 5, into a list of at least 200 bytes, and answers its length.
 pub fn run_line(run: FileRun, number: u8, line: &mut [u8]) -> usize
-    ensures { λ r. ⌜ r ≡ lineAnswer 160 (now (line .entry)) (runLine run number) ⌝ }
-    ensures { λ _. ⌜ now (line .exit) ≡ lineAfter 160 (now (line .entry)) (runLine run number) ⌝ }
+    ensures { λ r. ⌜ r ≡ lineAnswer 200 (now (line .entry)) (runLine run number) ⌝ }
+    ensures { λ _. ⌜ now (line .exit) ≡ lineAfter 200 (now (line .entry)) (runLine run number) ⌝ }
     ensures { λ r. ⌜ Counts r (now (line .exit)) ⌝ }
 {
-    if line.len() < 160 {
+    if line.len() < 200 {
         return 0;
     }
     if run.refused != 0 {
@@ -106,5 +105,5 @@ pub fn run_line(run: FileRun, number: u8, line: &mut [u8]) -> usize
     }
     let study = run.study;
     let sums = study.sums;
-    group_line(sums, number, line)
+    group_line(&sums, number, line)
 }

@@ -66,7 +66,7 @@ fn size_of(sum: i64) -> u64
 // A space and a sum, which may be negative.
 pub(crate) fn put_sum(sum: i64, at: usize, line: &mut [u8]) -> usize
     requires { ⌜ at + 22 ≤ length (now line) ⌝ }
-    ensures { λ r. ⌜ Put 22 (now (line .entry)) at (sumColumn sum) (now (line .exit)) r ⌝ }
+    ensures { λ r. ⌜ Put 21 (now (line .entry)) at (sumColumn sum) (now (line .exit)) r ⌝ }
 {
     if sum < 0 {
         let at = put_text(b" -", at, line);

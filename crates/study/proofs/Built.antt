@@ -6,6 +6,7 @@ use mathlib.Core.Bool.{Bool, true}
 use mathlib.Core.List.{List, [], _∷_}
 use lib.ListN.{length}
 use lib.Dec.{ltb, eqb}
+use lib.IntN.{ℤ}
 use native.Mathlib.Numerals.{add-one}
 use borrow.Author.Tests.{eqb-true, ltb-true, lt-ltb}
 use Rattle.basics.specs.Pick.{pick}
@@ -19,14 +20,13 @@ use Rattle.claim_months.specs.Windows.{windowSound, windowCheck}
 use Rattle.claim_months.proofs.SpanAnswers.{window-passes}
 use Rattle.rates.specs.Rates.{rateCheck}
 use Rattle.study.specs.declared.Study.{Study}
-use Rattle.study.specs.declared.Sums.{Sums}
 use Rattle.study.specs.declared.Answer.{Answer}
 use Rattle.study.specs.Sums.{none, plus}
-use Rattle.study.specs.Study.{shareOf, weightedShare, sumOver, studyOf, fresh, hasRoom, roomCheck, addCheck, withClaim, added}
-use Rattle.study.specs.Demand3.{occurrences, IsOrder, nthClaim, after, givenTo, ownRefusal, accepted}
+use Rattle.study.specs.Study.{shareOf, sumOver, studyOf, fresh, hasRoom, roomCheck, addCheck, withClaim, added, ownRefusal, accepted}
+use Rattle.study.specs.Demand3.{occurrences, IsOrder, nthClaim, after, givenTo}
 use Rattle.study.proofs.Algebra.{Shaped, plus-comm}
 use Rattle.study.proofs.SumOver.{All, SameSums, sums, takenAfter, same-length, run-same, order-length}
-use Rattle.study.proofs.Capacity.{Accepted, room, share-shaped, weighted-shaped}
+use Rattle.study.proofs.Capacity.{Accepted, room, share-shaped}
 
 -- adding an accepted claim to the study of some gives the study of one more
 with-built : (w : Window) (rates : List ℕ) (cs : List Claim) (c : Claim) → withClaim (studyOf w rates cs) c rates ≡ studyOf w rates (c ∷ cs)
@@ -36,7 +36,6 @@ with-built w rates cs c = λ i.
       window = w;
       taken = add-one (length cs) i;
       sums = plus-comm (sumOver plus none (shareOf w rates) cs) (shareOf w rates c) i;
-      weighted = plus-comm (sumOver plus none (weightedShare w rates) cs) (weightedShare w rates c) i;
     }
 
 pub fresh-built : (w : Window) (rates : List ℕ) → fresh w ≡ studyOf w rates []
@@ -50,8 +49,7 @@ study-same w rates xs ys same = λ i.
     record {
       window = w;
       taken = same-length xs ys same i;
-      sums = same Sums plus none Shaped sums (shareOf w rates) (share-shaped w rates) i;
-      weighted = same Sums plus none Shaped sums (weightedShare w rates) (weighted-shaped w rates) i;
+      sums = same (List ℤ) plus none Shaped sums (shareOf w rates) (share-shaped w rates) i;
     }
 
 -- the number answered to a claim by the study of some accepted claims: the claim's own, or 9 if they are 500,000 or more

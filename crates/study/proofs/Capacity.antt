@@ -1,36 +1,40 @@
 -- Check 9 doesn't fire under 500,000 accepted claims: each claim adds at most 54,000 thirtieths, 54,000,000,000 expected and one closing, and at most
 -- 200 times that to the weighted set.
 -- Assumes nothing.
-use Prim.Native.Nat.{ℕ, zero-le, _+_, _*_, _/_, _%_, _≤_, _<_}
-use mathlib.Core.Path.{_≡_}
-use mathlib.Core.Bool.{true}
+use Prim.Native.Nat.{ℕ, _+_, _*_, _≤_, _<_}
+use mathlib.Core.Path.{_≡_, refl, ap, _∙_}
+use mathlib.Core.Bool.{true, false≢true}
 use mathlib.Core.List.{List, [], _∷_}
-use lib.ListN.{length, getD}
-use lib.Dec.{eqb}
-use lib.IntN.{ℤ, pos, natAbs, _+ℤ_, _*ℤ_}
-use native.Mathlib.Nat.{mul-add, mul-left-comm, mul-le-mul, mul-le-mul-left}
+use lib.ListN.{length}
+use lib.Dec.{ltb, eqb}
+use lib.IntN.{ℤ, pos, negsuc, natAbs, _+ℤ_, _*ℤ_}
+use lib.Signed.{nonNeg}
+use native.Mathlib.Nat.{mul-add, mul-le-mul, mul-le-mul-left}
 use borrow.Author.Tests.{lt-ltb}
 use Rattle.basics.specs.Pick.{pick}
-use Rattle.basics.specs.Tables.{table, allWithin}
+use Rattle.basics.specs.Limits.{most-benefit}
+use Rattle.basics.specs.Tables.{allAtMost}
 use Rattle.basics.proofs.Tests.{tests, by}
 use Rattle.basics.proofs.Checks.{then-passed}
 use Rattle.basics.proofs.Integers.{size-sum, size-product}
-use Rattle.basics.proofs.Tables.{table-length, table-at, within-list, at-most-list}
+use Rattle.basics.proofs.Tables.{table-at}
 use Rattle.claim_months.specs.declared.Claim.{Claim}
 use Rattle.claim_months.specs.declared.Window.{Window}
 use Rattle.claim_months.specs.Claim.{claimCheck, category, weight}
-use Rattle.claim_months.specs.Exposure.{monthRecords, closedIn, closings}
+use Rattle.claim_months.specs.Exposure.{MonthRecord, monthRecords, closedIn}
 use Rattle.claim_months.proofs.Sound.{Sound, sound, weight-high}
 use Rattle.claim_months.proofs.Ranges.{weighted-size}
 use Rattle.claim_months.proofs.Closing.{closings-value, closingDuration}
 use Rattle.rates.specs.Rates.{groupOf, rateCheck}
+use Rattle.rates.specs.declared.Kind.{Kind}
 use Rattle.rates.proofs.Laws.{recovery-bound, death-bound}
-use Rattle.study.specs.declared.Sums.{Sums}
-use Rattle.study.specs.Sums.{signedEach, each, none, plus, times, within}
-use Rattle.study.specs.Study.{inGroup, groupWeight, exposure, closingCount, expected, recordSums, shareOf, weightedShare, sumOver, studyOf, sumsWithin, hasRoom}
-use Rattle.study.specs.Demand3.{ownRefusal}
-use Rattle.study.proofs.Algebra.{Shaped, signed-at, count-at, times-shaped}
-use Rattle.study.proofs.SumOver.{All, sums, good-sum}
+use Rattle.rates.proofs.PreparedTables.{recovery-size, death-size}
+use Rattle.study.specs.Sums.{groupAt, columnAt, isCount, timesAt, none, plus, columnBound, within}
+use Rattle.study.specs.Study.{inGroup, groupWeight, exposure, closingCount, expected, figure, recordSums, shareOf, sumOver, studyOf, hasRoom, ownRefusal}
+use Rattle.study.specs.PreparedAdding.{shareWith}
+use Rattle.study.proofs.Algebra.{Shaped, at, each-at, none-at, times-shaped, times-at}
+use Rattle.study.proofs.InBounds.{placeBound, in-is, all-is}
+use Rattle.study.proofs.SumOver.{All}
 
 -- a claim that is accepted
 abbrev pub Accepted : List ℕ → Claim → Type 0
@@ -74,141 +78,147 @@ closing-one c ok b e g x =
     rw (closings-value c ok w b e)
     (by (closedIn c b e) (λ t. pick t (w (closingDuration c) (category c)) 0 ≤ 1) (λ q. m) (λ q. omega tests))
 
--- what m sound claims have at the most: 54,000 thirtieths, x expected and one closing each
-pub record Sized (x m : ℕ) (s : Sums) : Type 0 where
-  pub thirtieths : (k : ℕ) → k < 5 → natAbs (getD (s .thirtieths) k (pos 0)) ≤ 54000 * m
-  pub closings : (k : ℕ) → k < 25 → getD (s .closings) k 0 ≤ m
-  pub recoveries : (k : ℕ) → k < 5 → natAbs (getD (s .recoveries) k (pos 0)) ≤ x * m
-  pub deaths : (k : ℕ) → k < 5 → natAbs (getD (s .deaths) k (pos 0)) ≤ x * m
+-- what a claim has at the most in a column: one closing, 54,000 thirtieths, or x expected
+unfoldable pub sizeIn : ℕ → ℕ → ℕ
+sizeIn x column = pick (isCount column) 1 (pick (eqb column 0) 54000 x)
 
-entry : (n m : ℕ) (f : ℕ → ℤ) → ((k : ℕ) → natAbs (f k) ≤ m) → (k : ℕ) → k < n → natAbs (getD (table n f) k (pos 0)) ≤ m * 1
-entry n m f h k l = let t = h k in rw (table-at n f k (pos 0) l) (omega tests)
+-- the figures of a sound claim's month records, with rates up to m
+module _ (m : ℕ) (recovery death : ℕ → ℤ) (p : (d : ℕ) → natAbs (recovery d) ≤ m) (q : (d : ℕ) → natAbs (death d) ≤ m) (c : Claim) (ok : Sound c) (b e : ℕ) where
+  figure-size : (g column : ℕ) → natAbs (figure recovery death g column (monthRecords c b e)) ≤ sizeIn (m * 30 * 1800) column
+  unfolding figure sizeIn
+  figure-size g column =
+      let rs = monthRecords c b e in
+      by (isCount column)
+      (λ t. natAbs (pick t (pos (closingCount g column rs)) (pick (eqb column 0) (exposure g rs) (pick (eqb column 6) (expected recovery g rs) (expected death g rs))))
+      ≤ pick t 1 (pick (eqb column 0) 54000 (m * 30 * 1800)))
+      (λ _. closing-one c ok b e g column)
+      (λ _.
+      by (eqb column 0)
+      (λ t. natAbs (pick t (exposure g rs) (pick (eqb column 6) (expected recovery g rs) (expected death g rs))) ≤ pick t 54000 (m * 30 * 1800))
+      (λ _. exposure-size c b e g)
+      (λ _.
+      by (eqb column 6) (λ t. natAbs (pick t (expected recovery g rs) (expected death g rs)) ≤ m * 30 * 1800) (λ _. expected-size m recovery p c b e g)
+      (λ _. expected-size m death q c b e g)))
 
-pub records-sized : (m : ℕ) (recovery death : ℕ → ℤ) → ((d : ℕ) → natAbs (recovery d) ≤ m) → ((d : ℕ) → natAbs (death d) ≤ m) → (c : Claim) → Sound c → (b e : ℕ)
-    → Sized (m * 30 * 1800) 1 (recordSums recovery death (monthRecords c b e))
+-- a figure of closings is not below 0
+figure-count : (recovery death : ℕ → ℤ) (g column : ℕ) (rs : List MonthRecord) → isCount column ≡ true → nonNeg (figure recovery death g column rs) ≡ true
+unfolding figure
+figure-count recovery death g column rs h = rw h
+
+-- what m claims have at the most, with x expected each, and 200 times that in the weighted set; no count is below 0
+pub record Sized (x m : ℕ) (s : List ℤ) : Type 0 where
+  pub size : (k : ℕ) → k < 80 → natAbs (at s k) ≤ timesAt most-benefit k * (sizeIn x (columnAt k) * m)
+  pub count : (k : ℕ) → k < 80 → isCount (columnAt k) ≡ true → nonNeg (at s k) ≡ true
+
+-- a claim weighs at most 200
+times-high : (n k : ℕ) → n ≤ most-benefit → timesAt n k ≤ timesAt most-benefit k
+unfolding timesAt
+times-high n k h = by (ltb k 40) (λ t. pick t 1 n ≤ pick t 1 most-benefit) (λ _. omega tests) (λ _. h)
+
+-- so many times a number that is not below 0
+times-count : (n : ℕ) (x : ℤ) → nonNeg x ≡ true → nonNeg (pos n *ℤ x) ≡ true
+times-count n (pos x) h = refl
+times-count n (negsuc x) h = absurd (false≢true h)
+
+pub plus-count : (x y : ℤ) → nonNeg x ≡ true → nonNeg y ≡ true → nonNeg (x +ℤ y) ≡ true
+plus-count (pos x) (pos y) p q = refl
+plus-count (negsuc x) y p q = absurd (false≢true p)
+plus-count (pos x) (negsuc y) p q = absurd (false≢true q)
+
+-- the sums over a sound claim's month records
+pub records-at : (recovery death : ℕ → ℤ) (n : ℕ) (rs : List MonthRecord) (k : ℕ) → k < 80
+    → at (recordSums recovery death n rs) k ≡ pos (timesAt n k) *ℤ figure recovery death (groupAt k) (columnAt k) rs
 unfolding recordSums
-records-sized m recovery death p q c ok b e =
+records-at recovery death n rs k l = times-at n _ k l ∙ ap (λ (z : ℤ). pos (timesAt n k) *ℤ z) (table-at 80 _ k (pos 0) l)
+
+pub records-shaped : (recovery death : ℕ → ℤ) (n : ℕ) (rs : List MonthRecord) → Shaped (recordSums recovery death n rs)
+unfolding recordSums
+records-shaped recovery death n rs = times-shaped n _
+
+pub records-sized : (m : ℕ) (recovery death : ℕ → ℤ) → ((d : ℕ) → natAbs (recovery d) ≤ m) → ((d : ℕ) → natAbs (death d) ≤ m) → (c : Claim) → Sound c → (b e n : ℕ)
+    → n ≤ most-benefit → Sized (m * 30 * 1800) 1 (recordSums recovery death n (monthRecords c b e))
+records-sized m recovery death p q c ok b e n h =
+    let rs = monthRecords c b e in
     record {
-      thirtieths = entry 5 54000 _ (λ k. exposure-size c b e (k + 1));
-      closings = λ k l. rw (table-at 25 (λ k. closingCount (k / 5 + 1) (k % 5 + 1) (monthRecords c b e)) k 0 l) (closing-one c ok b e (k / 5 + 1) (k % 5 + 1));
-      recoveries = entry 5 (m * 30 * 1800) _ (λ k. expected-size m recovery p c b e (k + 1));
-      deaths = entry 5 (m * 30 * 1800) _ (λ k. expected-size m death q c b e (k + 1));
+      size = λ k l.
+          let f = figure recovery death (groupAt k) (columnAt k) rs in
+          let z = figure-size m recovery death p q c ok b e (groupAt k) (columnAt k) in
+          let one : sizeIn (m * 30 * 1800) (columnAt k) ≤ sizeIn (m * 30 * 1800) (columnAt k) * 1 = omega tests in
+          let t : timesAt n k * natAbs f ≤ timesAt most-benefit k * (sizeIn (m * 30 * 1800) (columnAt k) * 1) = mul-le-mul (times-high n k h) (omega tests) in
+          rw (records-at recovery death n rs k l, size-product (pos (timesAt n k)) f) t;
+      count = λ k l u.
+          rw (records-at recovery death n rs k l) (times-count (timesAt n k) (figure recovery death (groupAt k) (columnAt k) rs) (figure-count recovery death (groupAt k) (columnAt k) rs u));
     }
+
+pub share-shaped : (w : Window) (rates : List ℕ) (c : Claim) → Shaped (shareOf w rates c)
+unfolding shareOf
+share-shaped w rates c = records-shaped _ _ (weight c) _
 
 pub share-sized : (w : Window) (rates : List ℕ) (c : Claim) → Accepted rates c → Sized 54000000000 1 (shareOf w rates c)
 unfolding shareOf
 share-sized w rates c ok =
     let passed = accepted-rates rates c ok in
     records-sized 1000000 _ _ (λ d. recovery-bound rates (c .cell) d passed) (λ d. death-bound rates (c .cell) d passed) c (accepted-sound rates c ok) (w .first .0) (w .last .0)
+    (weight c) (weight-high c (accepted-checks rates c ok))
 
-pub none-sized : (x m : ℕ) → Sized x m none
-unfolding none
-none-sized x m =
-    let z : (k n : ℕ) → k < 5 → natAbs (getD (table 5 (λ g. pos 0)) k (pos 0)) ≤ n = λ k n l. rw (table-at 5 (λ g. pos 0) k (pos 0) l) zero-le in
-    record {
-      thirtieths = λ k l. z k (54000 * m) l;
-      closings = λ k l. rw (table-at {A = ℕ} 25 (λ g. 0) k 0 l) zero-le;
-      recoveries = λ k l. z k (x * m) l;
-      deaths = λ k l. z k (x * m) l;
-    }
+-- with any table of 32-bit numbers
+pub table-sized : (kind : Kind) (w : Window) (table : List ℕ) (c : Claim) → claimCheck c ≡ 0 → allAtMost 4294967295 table ≡ true
+    → Sized 231928233930000 1 (shareWith kind w table c)
+unfolding shareWith
+table-sized kind w table c p small =
+    records-sized 4294967295 _ _ (recovery-size table small kind (c .cell)) (death-size table small kind (c .cell)) c (sound c p) (w .first .0) (w .last .0) (weight c)
+    (weight-high c p)
 
-pub plus-sized : (x m n : ℕ) (a b : Sums) → Sized x m a → Sized x n b → Sized x (m + n) (plus a b)
-unfolding each
+none-sized : (x : ℕ) → Sized x 0 none
+none-sized x = record { size = λ k l. rw (none-at k l) (omega tests); count = λ k l u. rw (none-at k l) refl }
+
+pub plus-sized : (x m n : ℕ) (a b : List ℤ) → Sized x m a → Sized x n b → Sized x (m + n) (plus a b)
 plus-sized x m n a b p q =
-    let z : (u : ℕ) (xs ys : List ℤ) → ((k : ℕ) → k < 5 → natAbs (getD xs k (pos 0)) ≤ u * m) → ((k : ℕ) → k < 5 → natAbs (getD ys k (pos 0)) ≤ u * n)
-    → (k : ℕ) → k < 5 → natAbs (getD (signedEach _+ℤ_ xs ys) k (pos 0)) ≤ u * (m + n) =
-    λ u xs ys f g k l.
-    let s = size-sum (getD xs k (pos 0)) (getD ys k (pos 0)) in
-    let x = f k l in
-    let y = g k l in
-    rw (signed-at _+ℤ_ xs ys k l, mul-add u m n) (omega tests) in
     record {
-      thirtieths = z 54000 _ _ (p .thirtieths) (q .thirtieths);
-      closings = λ k l. let x = p .closings k l in let y = q .closings k l in rw (count-at _+_ (a .closings) (b .closings) k l) (omega tests);
-      recoveries = z x _ _ (p .recoveries) (q .recoveries);
-      deaths = z x _ _ (p .deaths) (q .deaths);
+      size = λ k l.
+          let t = timesAt most-benefit k in
+          let z = sizeIn x (columnAt k) in
+          let s = size-sum (at a k) (at b k) in
+          let u = p .size k l in
+          let v = q .size k l in
+          rw (each-at _+ℤ_ a b k l, mul-add z m n, mul-add t (z * m) (z * n)) (omega tests);
+      count = λ k l u. rw (each-at _+ℤ_ a b k l) (plus-count (at a k) (at b k) (p .count k l u) (q .count k l u));
     }
 
--- n times what m claims have is what n times as many have at the most
-pub times-sized : (x m n : ℕ) (a : Sums) → Sized x m a → Sized x (n * m) (times n a)
-unfolding each
-times-sized x m n a p =
-    let z : (u : ℕ) (xs : List ℤ) → ((k : ℕ) → k < 5 → natAbs (getD xs k (pos 0)) ≤ u * m)
-    → (ys : List ℤ) (k : ℕ) → k < 5 → natAbs (getD (signedEach (λ x y. pos n *ℤ x) xs ys) k (pos 0)) ≤ u * (n * m) =
-    λ u xs f ys k l.
-    rw (signed-at (λ x y. pos n *ℤ x) xs ys k l, size-product (pos n) (getD xs k (pos 0)), mul-left-comm u n m) (mul-le-mul-left n (f k l)) in
-    record {
-      thirtieths = z 54000 _ (p .thirtieths) _;
-      closings = λ k l. rw (count-at (λ x y. n * x) (a .closings) (none .closings) k l) (mul-le-mul-left n (p .closings k l));
-      recoveries = z x _ (p .recoveries) _;
-      deaths = z x _ (p .deaths) _;
-    }
+-- 500,000 claims are within the bounds of refusal 9
+claims-bound : (column : ℕ) → sizeIn 54000000000 column * 500000 ≤ columnBound column
+unfolding sizeIn columnBound
+claims-bound column =
+    by (isCount column)
+    (λ t. pick t 1 (pick (eqb column 0) 54000 54000000000) * 500000 ≤ pick t 500000 (pick (eqb column 0) 27000000000 27000000000000000)) (λ _. omega tests)
+    (λ _.
+    by (eqb column 0) (λ t. pick t 54000 54000000000 * 500000 ≤ pick t 27000000000 27000000000000000) (λ _. omega tests) (λ _. omega tests))
 
--- what some claims have at the most, more have
-pub sized-more : (x m n : ℕ) (s : Sums) → m ≤ n → Sized x m s → Sized x n s
-sized-more x m n s h p =
-    let z : (u : ℕ) (xs : List ℤ) → ((k : ℕ) → k < 5 → natAbs (getD xs k (pos 0)) ≤ u * m) → (k : ℕ) → k < 5 → natAbs (getD xs k (pos 0)) ≤ u * n =
-    λ u xs f k l. let t = f k l in let v = mul-le-mul-left u h in omega tests in
-    record {
-      thirtieths = z 54000 (s .thirtieths) (p .thirtieths);
-      closings = λ k l. let t = p .closings k l in omega tests;
-      recoveries = z x (s .recoveries) (p .recoveries);
-      deaths = z x (s .deaths) (p .deaths);
-    }
+sized-within : (m : ℕ) (s : List ℤ) → m ≤ 500000 → Sized 54000000000 m s → within s ≡ true
+sized-within m s h z =
+    all-is columnBound s
+    (λ k l.
+    let size = sizeIn 54000000000 (columnAt k) in
+    let t : size * m ≤ size * 500000 = mul-le-mul-left size h in
+    let c = claims-bound (columnAt k) in
+    let u : timesAt most-benefit k * (size * m) ≤ placeBound columnBound k = mul-le-mul-left (timesAt most-benefit k) (omega tests) in
+    let v = z .size k l in
+    in-is (placeBound columnBound k) (columnAt k) (at s k) (omega tests) (z .count k l))
 
-pub weighted-sized : (w : Window) (rates : List ℕ) (c : Claim) → Accepted rates c → Sized 54000000000 200 (weightedShare w rates c)
-unfolding weightedShare
-weighted-sized w rates c ok =
-    let h = weight-high c (accepted-checks rates c ok) in
-    sized-more 54000000000 (weight c * 1) 200 _ (omega tests) (times-sized 54000000000 1 (weight c) (shareOf w rates c) (share-sized w rates c ok))
+-- the sums of accepted claims
+pub shares-sized : (w : Window) (rates : List ℕ) (cs : List Claim) → All (Accepted rates) cs → Sized 54000000000 (length cs) (sumOver plus none (shareOf w rates) cs)
+unfolding sumOver
+shares-sized w rates [] a = none-sized 54000000000
+shares-sized w rates (c ∷ cs) a =
+    let e : length (c ∷ cs) ≡ 1 + length cs = omega tests in
+    rw e (plus-sized 54000000000 1 (length cs) _ _ (share-sized w rates c (a .0)) (shares-sized w rates cs (a .1)))
 
--- what is sized for n times 500,000 claims is within n times the bounds of refusal 9
-sized-within : (n m : ℕ) (s : Sums) → m ≤ 500000 → Shaped s → Sized 54000000000 (n * m) s → within n s ≡ true
-unfolding within
-sized-within n m s h q z =
-    let v = mul-le-mul-left n h in
-    let f : (u b : ℕ) (xs : List ℤ) → u * (n * 500000) ≤ b → length xs ≡ 5 → ((k : ℕ) → k < 5 → natAbs (getD xs k (pos 0)) ≤ u * (n * m)) → allWithin b xs ≡ true =
-    λ u b xs ub e g. within-list b xs (λ k l. let t = g k (omega (tests, e)) in let p = mul-le-mul-left u v in omega tests) in
-    rw (
-      f 54000 (27000000000 * n) (s .thirtieths) (omega tests) (q .thirtieths) (z .thirtieths),
-      f 54000000000 (27000000000000000 * n) (s .recoveries) (omega tests) (q .recoveries) (z .recoveries),
-      f 54000000000 (27000000000000000 * n) (s .deaths) (omega tests) (q .deaths) (z .deaths),
-      at-most-list (500000 * n) (s .closings) (λ k l. let t = z .closings k (omega (tests, q .closings)) in omega tests),
-    )
-
--- the sums over claims that add n claims' sums each at the most
-module _ (rates : List ℕ) (n : ℕ) (share : Claim → Sums) (shaped : (c : Claim) → Shaped (share c))
-    (sized : (c : Claim) → Accepted rates c → Sized 54000000000 n (share c)) where
-  shares-sized : (cs : List Claim) → All (Accepted rates) cs → Sized 54000000000 (n * length cs) (sumOver plus none share cs)
-  unfolding sumOver
-  shares-sized [] a = none-sized 54000000000 (n * 0)
-  shares-sized (c ∷ cs) a =
-      sized-more 54000000000 (n + n * length cs) (n * length (c ∷ cs)) _ (omega tests)
-      (plus-sized 54000000000 n (n * length cs) _ _ (sized c (a .0)) (shares-sized cs (a .1)))
-
-  shares-within : (cs : List Claim) → All (Accepted rates) cs → length cs ≤ 500000 → within n (sumOver plus none share cs) ≡ true
-  shares-within cs a h = sized-within n (length cs) _ h (good-sum plus none Shaped sums rates share shaped cs) (shares-sized cs a)
-
-pub share-shaped : (w : Window) (rates : List ℕ) (c : Claim) → Shaped (shareOf w rates c)
-unfolding shareOf recordSums
-share-shaped w rates c = record { thirtieths = table-length 5 _; closings = table-length 25 _; recoveries = table-length 5 _; deaths = table-length 5 _ }
-
-pub weighted-shaped : (w : Window) (rates : List ℕ) (c : Claim) → Shaped (weightedShare w rates c)
-unfolding weightedShare
-weighted-shaped w rates c = times-shaped (weight c) (shareOf w rates c)
-
--- the sums of a study of up to 500,000 accepted claims are within the bounds of refusal 9
-pub built-within : (w : Window) (rates : List ℕ) (cs : List Claim) → All (Accepted rates) cs → length cs ≤ 500000
-    → (within 1 (studyOf w rates cs .sums) ≡ true) × (within 200 (studyOf w rates cs .weighted) ≡ true)
+-- a study of up to 500,000 accepted claims is within the bounds of refusal 9
+pub built-within : (w : Window) (rates : List ℕ) (cs : List Claim) → All (Accepted rates) cs → length cs ≤ 500000 → within (studyOf w rates cs .sums) ≡ true
 unfolding studyOf
-built-within w rates cs a h = (
-  shares-within rates 1 (shareOf w rates) (share-shaped w rates) (share-sized w rates) cs a h,
-  shares-within rates 200 (weightedShare w rates) (weighted-shaped w rates) (weighted-sized w rates) cs a h,
-)
+built-within w rates cs a h = sized-within (length cs) _ h (shares-sized w rates cs a)
 
 -- one of fewer than 500,000 has room
 pub room : (w : Window) (rates : List ℕ) (cs : List Claim) → All (Accepted rates) cs → length cs < 500000 → hasRoom (studyOf w rates cs) ≡ true
-unfolding hasRoom sumsWithin studyOf
-room w rates cs a h =
-    let b = built-within w rates cs a (omega tests) in
-    rw (lt-ltb (length cs) 500000 h, b .0, b .1)
+unfolding hasRoom studyOf
+room w rates cs a h = rw (lt-ltb (length cs) 500000 h, built-within w rates cs a (omega tests))

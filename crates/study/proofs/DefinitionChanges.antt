@@ -3,12 +3,12 @@
 use Rattle.claim_months.specs.ChangeOfDefinition.{withCode}
 use Rattle.claim_months.proofs.ChangesOfDefinition.{change-of-definition}
 use Rattle.claim_months.specs.Claim.{weight}
-use Rattle.study.specs.Study.{shareOf, weightedShare, addCheck, withClaim, added}
+use Rattle.study.specs.Study.{shareOf, addCheck, withClaim, added}
 use Rattle.study.specs.PreparedAdding.{shareWith, addCheckWith, addedWith}
 use Rattle.study.specs.DefinitionChange.{DefinitionChange}
 
 pub definition-change : DefinitionChange
-unfolding withCode weight shareOf weightedShare addCheck withClaim added shareWith addCheckWith addedWith
+unfolding withCode weight shareOf addCheck withClaim added shareWith addCheckWith addedWith
 definition-change c z six =
     let same = change-of-definition c z six in
     let checks = same .checks in

@@ -1,40 +1,39 @@
 -- Demand 3, the proof. Each run's last study is that of the accepted claims (`Built`); a claim's shares add up over the parts (the weighted and
 -- the closing law of the claim months); so the studies' sums do.
 -- Assumes nothing.
-use Prim.Native.Nat.{ℕ, _+_, _-_, _*_, _/_, _%_, _≤_, _<_}
+use Prim.Native.Nat.{ℕ, _+_, _-_, _*_, _≤_, _<_}
 use mathlib.Core.Path.{_≡_, refl, sym, ap, _∙_, subst⁻¹, subst₂}
 use mathlib.Core.Bool.{Bool, true, false, _&&_, false≢true}
 use mathlib.Core.List.{List, [], _∷_}
 use mathlib.Core.Logic.{_⊎_, inl, inr}
-use lib.ListN.{length, getD, set, length-set}
-use lib.Seq.{getD-set-same, getD-set-other}
+use lib.ListN.{length}
 use lib.Dec.{eqb}
-use native.Mathlib.Nat.{mul-zero, mul-one}
-use borrow.Author.Tests.{eqb-true, lt-ltb}
+use lib.IntN.{ℤ, pos, natAbs, _+ℤ_, _-ℤ_, _*ℤ_, +ℤ-invr, *ℤ-comm, *ℤ-one, *ℤ-zero, one}
+use borrow.Author.Tests.{eqb-true, eq-eqb, lt-ltb, le-leb, le-ltb}
 use Rattle.basics.specs.Pick.{pick}
 use Rattle.basics.proofs.Tests.{tests, by, and-left, and-right}
-use Rattle.basics.proofs.Tables.{table-at}
+use Rattle.basics.proofs.Integers.{plus-minus}
 use Rattle.calendar.specs.declared.Date.{Date}
 use Rattle.claim_months.specs.declared.Claim.{Claim}
 use Rattle.claim_months.specs.declared.Window.{Window}
 use Rattle.claim_months.specs.declared.MaybeWindow.{MaybeWindow}
 use Rattle.claim_months.specs.Claim.{terminationDay, category, weight}
-use Rattle.claim_months.specs.Exposure.{closedIn}
+use Rattle.claim_months.specs.Exposure.{monthRecords, closedIn}
 use Rattle.claim_months.specs.Windows.{windowSound, datesWindow, between, Parts, total, EveryPart, NoPart, ExactlyOnePart}
 use Rattle.claim_months.proofs.DateWindows.{dates-sound, windowed}
 use Rattle.claim_months.proofs.Parts.{Holds, SoundParts, parts-map, parts-every, every-map, every-both, never-part, parts-within, inside-parts, one-part}
 use Rattle.claim_months.proofs.Closing.{closingDuration, closings-value, closed-of, code-range, closed-holds, holds-closed}
-use Rattle.rates.specs.Rates.{groupOf}
+use Rattle.rates.specs.Rates.{recoveryRate, deathRate, groupOf}
 use Rattle.rates.proofs.Laws.{group-low, group-high}
 use Rattle.study.specs.declared.Study.{Study}
 use Rattle.study.specs.declared.Answer.{Answer}
-use Rattle.study.specs.Sums.{countEach, each, none, plus}
-use Rattle.study.specs.Study.{inGroup, closingCount, recordSums, shareOf, weightedShare, sumOver, studyOf, fresh, openedWith, opened, added}
-use Rattle.study.specs.Demand3.{StudyRun, runWindow, occurrences, Opens, nthClaim, after, givenTo, lastStudy, givenAt, answerAt, CountedClosed, LeavesClosings, ownRefusal, accepted, closesIn, Demand3}
-use Rattle.study.proofs.Algebra.{Shaped, count-is, count-at}
+use Rattle.study.specs.Sums.{groupAt, columnAt, isCount, ClosingPlace, timesAt, none, plus}
+use Rattle.study.specs.Study.{inGroup, closingCount, figure, shareOf, sumOver, studyOf, fresh, openedWith, opened, added, ownRefusal, accepted}
+use Rattle.study.specs.Demand3.{StudyRun, runWindow, occurrences, Opens, nthClaim, after, givenTo, lastStudy, givenAt, answerAt, CountedClosed, LeavesClosings, WeighsClosings, closesIn, Demand3}
+use Rattle.study.proofs.Algebra.{at, each-at}
 use Rattle.study.proofs.Places.{one-place}
-use Rattle.study.proofs.SumOver.{All, sums, good-sum, order-length}
-use Rattle.study.proofs.Capacity.{Accepted, accepted-sound, share-shaped, weighted-shaped}
+use Rattle.study.proofs.SumOver.{All, order-length}
+use Rattle.study.proofs.Capacity.{Accepted, accepted-sound, records-at}
 use Rattle.study.proofs.Totals.{built-total}
 use Rattle.study.proofs.Built.{fresh-built, added-built, Given, given-built, last-built, oneMore}
 
@@ -50,111 +49,111 @@ opens-sound n r o = dates-sound (r .first) (r .last) (opens-window (r .first) (r
 opens-fresh : (n : ℕ) (r : StudyRun) → Opens n r → opened (r .first) (r .last) .study ≡ fresh (runWindow r)
 opens-fresh n r o = opens-window (r .first) (r .last) (o .0) .1
 
-times-pick : (n : ℕ) (t : Bool) → n * pick t 1 0 ≡ pick t n 0
-times-pick n true = mul-one n
-times-pick n false = mul-zero n
-
--- counts of which one is n and the others 0, added to some others
-raised : (n k₀ : ℕ) (more l : List ℕ) → length l ≡ 25 → k₀ < 25 → ((k : ℕ) → k < 25 → getD more k 0 ≡ pick (eqb k k₀) n 0)
-    → countEach _+_ more l ≡ set l k₀ (getD l k₀ 0 + n)
-raised n k₀ more l e h m =
-    sym (count-is _+_ more l _ (length-set l k₀ (getD l k₀ 0 + n) ∙ e)
-    (λ k q.
-    by (eqb k k₀) (λ y. getD more k 0 ≡ pick y n 0 → getD (set l k₀ (getD l k₀ 0 + n)) k 0 ≡ getD more k 0 + getD l k 0)
-    (λ u v.
-    let s : k ≡ k₀ = omega tests in
-    let g = getD-set-same l k₀ (getD l k₀ 0 + n) 0 (omega tests) in
-    rw s (omega (tests, rw s at v)))
-    (λ u v. let g = getD-set-other l k₀ k (getD l k₀ 0 + n) 0 (λ s. omega tests) in omega tests)
-    (m k q)))
-
--- counts that are all 0, added to some others
-left : (more l : List ℕ) → length l ≡ 25 → ((k : ℕ) → k < 25 → getD more k 0 ≡ 0) → countEach _+_ more l ≡ l
-left more l e m = sym (count-is _+_ more l l e (λ k q. let v = m k q in omega tests))
-
--- the closings of an accepted claim's share: one at its place if it is closed in the window, else none
+-- the closings of an accepted claim's share: one at its place if it is closed in the window, else none; in the weighted set its weight times these
 module _ (w : Window) (rates : List ℕ) (c : Claim) (ok : Accepted rates c) where
-  closings-at : (k : ℕ) → k < 25
-      → getD (shareOf w rates c .closings) k 0
-      ≡ pick (closedIn c (w .first .0) (w .last .0)) (inGroup (k / 5 + 1) (closingDuration c) * pick (eqb (category c) (k % 5 + 1)) 1 0) 0
-  unfolding shareOf recordSums closingCount
-  closings-at k l =
-      table-at 25 _ k 0 l
-      ∙ closings-value c (accepted-sound rates c ok) (λ d y. inGroup (k / 5 + 1) d * pick (eqb y (k % 5 + 1)) 1 0) (w .first .0) (w .last .0)
+  abbrev closes : Bool
+  closes = closedIn c (w .first .0) (w .last .0)
+
+  count-in : ℕ → ℕ
+  count-in k = closingCount (groupAt k) (columnAt k) (monthRecords c (w .first .0) (w .last .0))
+
+  share-at : (n k : ℕ) → n < 80 → groupAt n ≡ groupAt k → columnAt n ≡ columnAt k → isCount (columnAt k) ≡ true
+      → at (shareOf w rates c) n ≡ pos (timesAt (weight c) n) *ℤ pos (count-in k)
+  unfolding shareOf figure count-in
+  share-at n k l g x u =
+      rw (g, x, u) at
+      (records-at (λ d. pos (recoveryRate rates (c .cell) d)) (λ d. pos (deathRate rates (c .cell) d)) (weight c)
+      (monthRecords c (w .first .0) (w .last .0)) n l)
+
+  first-at : (k : ℕ) → ClosingPlace k → at (shareOf w rates c) k ≡ pos (count-in k)
+  unfolding timesAt one
+  first-at k (l, u) =
+      share-at k k (omega tests) refl refl u ∙ rw (lt-ltb k 40 l) (*ℤ-comm (pos 1) (pos (count-in k)) ∙ *ℤ-one (pos (count-in k)))
+
+  weighted-at : (k : ℕ) → ClosingPlace k → at (shareOf w rates c) (k + 40) ≡ pos (weight c) *ℤ at (shareOf w rates c) k
+  unfolding timesAt
+  weighted-at k (l, u) =
+      share-at (k + 40) k (omega tests) (omega tests) (omega tests) u
+      ∙ rw (le-ltb (k + 40) 40 (omega tests)) (ap (λ (z : ℤ). pos (weight c) *ℤ z) (sym (first-at k (l, u))))
+
+  -- its closing count at a place
+  count-is : (k : ℕ) → count-in k ≡ pick closes (inGroup (groupAt k) (closingDuration c) * pick (eqb (category c) (columnAt k)) 1 0) 0
+  unfolding count-in closingCount
+  count-is k =
+      closings-value c (accepted-sound rates c ok) (λ d y. inGroup (groupAt k) d * pick (eqb y (columnAt k)) 1 0) (w .first .0) (w .last .0)
 
   place : ℕ
-  place = 5 * (groupOf (closingDuration c) - 1) + (category c - 1)
+  place = 8 * (groupOf (closingDuration c) - 1) + category c
 
-  place-in : closedIn c (w .first .0) (w .last .0) ≡ true → place < 25
-  unfolding place
+  place-in : closes ≡ true → ClosingPlace place
+  unfolding place isCount
   place-in q =
       let r = code-range c (accepted-sound rates c ok) (closed-of c (w .first .0) (w .last .0) q .0) in
-      omega (tests, r .0, r .1, group-low (closingDuration c), group-high (closingDuration c))
+      let g = groupOf (closingDuration c) in
+      let x : columnAt (8 * (g - 1) + category c) ≡ category c = omega (tests, r .0, r .1) in (
+        omega (tests, r .0, r .1, group-low (closingDuration c), group-high (closingDuration c)),
+        rw (x, le-leb 1 (category c) (r .0), le-leb (category c) 5 (r .1)),
+      )
 
-  closed-at : closedIn c (w .first .0) (w .last .0) ≡ true → (k : ℕ) → k < 25 → getD (shareOf w rates c .closings) k 0 ≡ pick (eqb k place) 1 0
+  closed-at : closes ≡ true → (k : ℕ) → ClosingPlace k → at (shareOf w rates c) k ≡ pick (eqb k place) (pos 1) (pos 0)
   unfolding place inGroup
-  closed-at q k l =
+  closed-at q k h =
       let r = code-range c (accepted-sound rates c ok) (closed-of c (w .first .0) (w .last .0) q .0) in
-      rw q at (closings-at k l) ∙ one-place (groupOf (closingDuration c)) (category c) k (group-low (closingDuration c)) (r .0) (r .1)
+      first-at k h
+      ∙ ap pos (rw q at (count-is k) ∙ one-place (groupOf (closingDuration c)) (category c) k (group-low (closingDuration c)) (omega (tests, r .1)) (h .0))
+      ∙ by (eqb k place) (λ t. pos (pick t 1 0) ≡ pick t (pos 1) (pos 0)) (λ _. refl) (λ _. refl)
 
-  open-at : closedIn c (w .first .0) (w .last .0) ≡ false → (k : ℕ) → k < 25 → getD (shareOf w rates c .closings) k 0 ≡ 0
-  open-at q k l = rw q at (closings-at k l)
+  open-at : closes ≡ false → (k : ℕ) → ClosingPlace k → at (shareOf w rates c) k ≡ pos 0
+  open-at q k h = first-at k h ∙ ap pos (rw q at (count-is k))
 
-  -- the weighted ones are its weight times these
-  weighted-at : (k : ℕ) → k < 25 → getD (weightedShare w rates c .closings) k 0 ≡ weight c * getD (shareOf w rates c .closings) k 0
-  unfolding weightedShare each
-  weighted-at k l = count-at (λ x y. weight c * x) (shareOf w rates c .closings) (none .closings) k l
+-- by how much the sum at a place is higher in another study; one closing count is by one, and no other; none is; each weighted one is by n times its
+-- count
+abbrev rise : Study → Study → ℕ → ℤ
+rise s t k = at (t .sums) k -ℤ at (s .sums) k
 
-closings-length : (w : Window) (rates : List ℕ) (cs : List Claim)
-    → (length (studyOf w rates cs .sums .closings) ≡ 25) × (length (studyOf w rates cs .weighted .closings) ≡ 25)
-unfolding studyOf
-closings-length w rates cs = (
-  good-sum plus none Shaped sums rates (shareOf w rates) (share-shaped w rates) cs .closings,
-  good-sum plus none Shaped sums rates (weightedShare w rates) (weighted-shaped w rates) cs .closings,
-)
-
--- one closing count of a study is higher by one in another, and the same weighted one by n; all of both are the same
-abbrev Higher : ℕ → Study → Study → Type 0
-Higher n s t =
-    (k : ℕ) × (k < 25) × (t .sums .closings ≡ set (s .sums .closings) k (getD (s .sums .closings) k 0 + 1))
-    × (t .weighted .closings ≡ set (s .weighted .closings) k (getD (s .weighted .closings) k 0 + n))
+abbrev Higher : Study → Study → Type 0
+Higher s t = (k₀ : ℕ) × ClosingPlace k₀ × ((k : ℕ) → ClosingPlace k → rise s t k ≡ pick (eqb k k₀) (pos 1) (pos 0))
 
 abbrev Same : Study → Study → Type 0
-Same s t = (t .sums .closings ≡ s .sums .closings) × (t .weighted .closings ≡ s .weighted .closings)
+Same s t = (k : ℕ) → ClosingPlace k → rise s t k ≡ pos 0
 
--- of an accepted claim closed in the window, one more claim makes one count higher by one ..
-counted-more : (w : Window) (rates : List ℕ) (c : Claim) → Accepted rates c → closedIn c (w .first .0) (w .last .0) ≡ true → (cs : List Claim)
-    → Higher (weight c) (studyOf w rates cs) (studyOf w rates (c ∷ cs))
-unfolding studyOf sumOver each
-counted-more w rates c ok q cs =
-    let n = closings-length w rates cs in
-    let k₀ = place w rates c ok in
-    let h = place-in w rates c ok q in
-    let at = closed-at w rates c ok q in (
-      k₀,
-      h,
-      raised 1 k₀ (shareOf w rates c .closings) _ (n .0) h at,
-      raised (weight c) k₀ (weightedShare w rates c .closings) _ (n .1) h
-          (λ k l. weighted-at w rates c ok k l ∙ ap (λ (x : ℕ). weight c * x) (at k l) ∙ times-pick (weight c) (eqb k k₀)),
-    )
+abbrev Weighs : ℕ → Study → Study → Type 0
+Weighs n s t = (k : ℕ) → ClosingPlace k → rise s t (k + 40) ≡ pos n *ℤ rise s t k
 
--- .. and of any other none
-counted-none : (w : Window) (rates : List ℕ) (c : Claim) → Accepted rates c → closedIn c (w .first .0) (w .last .0) ≡ false → (cs : List Claim)
-    → Same (studyOf w rates cs) (studyOf w rates (c ∷ cs))
-unfolding studyOf sumOver each
-counted-none w rates c ok q cs =
-    let n = closings-length w rates cs in
-    let at = open-at w rates c ok q in (
-      left (shareOf w rates c .closings) _ (n .0) at,
-      left (weightedShare w rates c .closings) _ (n .1) (λ k l. weighted-at w rates c ok k l ∙ ap (λ (x : ℕ). weight c * x) (at k l) ∙ mul-zero (weight c)),
-    )
+-- one more claim adds its share
+module _ (w : Window) (rates : List ℕ) (c : Claim) (cs : List Claim) where
+  share-rises : (k : ℕ) → k < 80 → rise (studyOf w rates cs) (studyOf w rates (c ∷ cs)) k ≡ at (shareOf w rates c) k
+  unfolding studyOf sumOver
+  share-rises k l =
+      let s = sumOver plus none (shareOf w rates) cs in
+      ap (λ (z : ℤ). z -ℤ at s k) (each-at _+ℤ_ (shareOf w rates c) s k l) ∙ plus-minus (at (shareOf w rates c) k) (at s k)
 
--- a study's counts are not its own with one higher by one
-not-higher : (n : ℕ) (s t : Study) → length (s .sums .closings) ≡ 25 → Same s t → Higher n s t → ⊥
-not-higher n s t e same (k, h, u, v) =
-    let l = s .sums .closings in
-    let g = getD-set-same l k (getD l k 0 + 1) 0 (omega tests) in
-    let w : getD l k 0 ≡ getD (set l k (getD l k 0 + 1)) k 0 = ap (λ (m : List ℕ). getD m k 0) (sym (same .0) ∙ u) in
+  module _ (ok : Accepted rates c) where
+    -- of an accepted claim closed in the window, it makes one count higher by one ..
+    counted-more : closes w rates c ok ≡ true → Higher (studyOf w rates cs) (studyOf w rates (c ∷ cs))
+    counted-more q =
+        (place w rates c ok, place-in w rates c ok q, λ k h. share-rises k (omega (tests, h .0)) ∙ closed-at w rates c ok q k h)
+
+    -- .. and of any other none
+    counted-none : closes w rates c ok ≡ false → Same (studyOf w rates cs) (studyOf w rates (c ∷ cs))
+    counted-none q k h = share-rises k (omega (tests, h .0)) ∙ open-at w rates c ok q k h
+
+    weighs-more : Weighs (weight c) (studyOf w rates cs) (studyOf w rates (c ∷ cs))
+    weighs-more k h =
+        share-rises (k + 40) (omega (tests, h .0)) ∙ weighted-at w rates c ok k h
+        ∙ ap (λ (z : ℤ). pos (weight c) *ℤ z) (sym (share-rises k (omega (tests, h .0))))
+
+-- a study is not higher than itself
+none-rises : (s : Study) (k : ℕ) → rise s s k ≡ pos 0
+none-rises s k = +ℤ-invr (at (s .sums) k)
+
+none-weighs : (n : ℕ) (s : Study) → Weighs n s s
+none-weighs n s k h = none-rises s (k + 40) ∙ sym (ap (λ (z : ℤ). pos n *ℤ z) (none-rises s k) ∙ *ℤ-zero (pos n))
+
+not-higher : (s t : Study) → Same s t → Higher s t → ⊥
+not-higher s t same (k, h, u) =
+    let e : pos 0 ≡ pos 1 = sym (same k h) ∙ u k h ∙ rw (eq-eqb k k refl) refl in
+    let n : _≡_ {A = ℕ} 0 1 = ap natAbs e in
     omega tests
 
 -- one run
@@ -196,8 +195,8 @@ module _ (rates : List ℕ) (claims : List Claim) (h : length claims ≤ 500000)
         let n = eqb (ownRefusal rates c) 0 in
         let x = closedIn c (runWindow r .first .0) (runWindow r .last .0) in
         let z = and-left n x q in
-        let m = counted-more (runWindow r) rates c (eqb-true (ownRefusal rates c) 0 z) (and-right n x q) (given .0) in
-        subst₂ (Higher (weight c)) (sym (given .1)) (sym (rw z at after-given)) m
+        let m = counted-more (runWindow r) rates c (given .0) (eqb-true (ownRefusal rates c) 0 z) (and-right n x q) in
+        subst₂ Higher (sym (given .1)) (sym (rw z at after-given)) m
 
     leaves-run : closesIn rates (nthClaim claims i) r ≡ false → LeavesClosings rates claims i r
     unfolding closesIn
@@ -207,13 +206,21 @@ module _ (rates : List ℕ) (claims : List Claim) (h : length claims ≤ 500000)
         by (eqb (ownRefusal rates c) 0)
         (λ y. (y && closedIn c (runWindow r .first .0) (runWindow r .last .0)) ≡ false
         → Same (studyOf (runWindow r) rates (given .0)) (studyOf (runWindow r) rates (pick y (c ∷ given .0) (given .0))))
-        (λ z w. counted-none (runWindow r) rates c (eqb-true (ownRefusal rates c) 0 z) w (given .0)) (λ z w. (refl, refl)) q in
+        (λ z w. counted-none (runWindow r) rates c (given .0) (eqb-true (ownRefusal rates c) 0 z) w) (λ z w k h. none-rises (studyOf (runWindow r) rates (given .0)) k) q in
         subst₂ Same (sym (given .1)) (sym after-given) same
+
+    weighs-run : WeighsClosings rates claims i r
+    weighs-run =
+        let c = nthClaim claims i in
+        let weighs =
+        by (eqb (ownRefusal rates c) 0)
+        (λ y. Weighs (weight c) (studyOf (runWindow r) rates (given .0)) (studyOf (runWindow r) rates (pick y (c ∷ given .0) (given .0))))
+        (λ z. weighs-more (runWindow r) rates c (given .0) (eqb-true (ownRefusal rates c) 0 z)) (λ z. none-weighs (weight c) (studyOf (runWindow r) rates (given .0))) in
+        subst₂ (Weighs (weight c)) (sym (given .1)) (sym after-given) weighs
 
     not-counted-run : closesIn rates (nthClaim claims i) r ≡ false → CountedClosed rates claims i r → ⊥
     not-counted-run q k =
-        not-higher (weight (nthClaim claims i)) (givenAt rates claims i r) (added (givenAt rates claims i r) (nthClaim claims i) rates .study)
-        (ap (λ (s : Study). length (s .sums .closings)) (given .1) ∙ closings-length (runWindow r) rates (given .0) .0) (leaves-run q) k
+        not-higher (givenAt rates claims i r) (added (givenAt rates claims i r) (nthClaim claims i) rates .study) (leaves-run q) k
 
     -- a run counts the claim as closed, or leaves all counts as they were
     counted-or-left : CountedClosed rates claims i r ⊎ LeavesClosings rates claims i r
@@ -255,8 +262,7 @@ module _ (rates : List ℕ) (claims : List Claim) (whole part : StudyRun) (parts
   studies = every-map _ _ (last-study rates claims h) part parts opens
 
   -- the last studies are those of the accepted claims, which total
-  totals : (total plus (λ r. lastStudy rates claims r .sums) part parts ≡ lastStudy rates claims whole .sums)
-      × (total plus (λ r. lastStudy rates claims r .weighted) part parts ≡ lastStudy rates claims whole .weighted)
+  totals : total plus (λ r. lastStudy rates claims r .sums) part parts ≡ lastStudy rates claims whole .sums
   totals =
       built-total runWindow (lastStudy rates claims) rates (accepted rates claims) (all-accepted rates claims) whole part parts ps
       (last-study rates claims h whole ow) studies
@@ -322,15 +328,18 @@ module _ (rates : List ℕ) (claims : List Claim) (whole part : StudyRun) (parts
               (λ r o w. not-counted-run rates claims h i l r o w) part parts opens none),
         )
 
+    weighs : WeighsClosings rates claims i whole × EveryPart (WeighsClosings rates claims i) part parts
+    weighs = (weighs-run rates claims h i l whole ow, every-map _ _ (weighs-run rates claims h i l) part parts opens)
+
 pub demand-3 : Demand3
 demand-3 rates claims whole part parts h ow cons =
     record {
-      sums = totals rates claims whole part parts h ow cons .0;
-      weighted = totals rates claims whole part parts h ow cons .1;
+      sums = totals rates claims whole part parts h ow cons;
       answer = λ i l. answer-own rates claims h i l whole ow;
       same-answer = same rates claims whole part parts h ow cons;
       counted = once rates claims whole part parts h ow cons;
       not-counted = never rates claims whole part parts h ow cons;
+      weighted-closings = weighs rates claims whole part parts h ow cons;
       whole-study = last-study rates claims h whole ow;
       part-studies = studies rates claims whole part parts h ow cons;
     }

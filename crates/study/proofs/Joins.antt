@@ -1,28 +1,27 @@
--- What a join tests and what it answers: whether the sum of two numbers is within a bound, found without adding them; sums and both together within
+-- What a join tests and what it answers: whether the sum of two numbers is within a bound, found without adding them; the sums of both together within
 -- bounds; the checks in their order; and the study of a join that passes them.
 -- Assumes nothing.
-use Prim.Native.Nat.{ℕ, zero, suc, _+_, _-_, _*_, _≤_}
+use Prim.Native.Nat.{ℕ, zero, suc, _+_, _-_, _≤_, _<_}
 use mathlib.Core.Path.{_≡_, refl, sym, ap, _∙_}
-use mathlib.Core.Bool.{Bool, true, false, _&&_, cond, true≢false, and-false}
+use mathlib.Core.Bool.{true, false, _&&_, cond, true≢false, and-false}
+use mathlib.Core.List.{List}
 use lib.Dec.{leb, ltb}
 use lib.IntN.{ℤ, pos, negsuc, natAbs, negℤ, subℕ, _+ℤ_, _-ℤ_, +ℤ-idl}
 use lib.Signed.{ltZ, leZ}
-use native.Mathlib.Nat.{mul-le-mul-left}
 use borrow.Author.Tests.{le-leb, lt-leb, leb-true, le-ltb, eq-eqb, ne-eqb}
 use Rattle.basics.specs.Checks.{check, _then_, refuse-window, refuse-other-window, refuse-full}
 use Rattle.basics.proofs.Tests.{tests, by, and-left, and-right}
 use Rattle.basics.proofs.Checks.{then-passed, check-passed}
 use Rattle.basics.proofs.Integers.{sub-is, size-sub}
+use Rattle.basics.proofs.Tables.{every-fails}
 use Rattle.claim_months.specs.Windows.{windowSound, windowCheck}
-use Rattle.study.specs.declared.Sums.{Sums}
 use Rattle.study.specs.declared.Study.{Study}
 use Rattle.study.specs.declared.Answer.{Answer}
-use Rattle.study.specs.Sums.{plus, within, signedEach, countEach, each}
-use Rattle.study.specs.Joining.{studyWindowCheck, sameWindow, joinedWithin, joinRoom, joinCheck, together, joined}
-use Rattle.study.specs.PreparedAdding.{lentSums}
-use Rattle.study.specs.Private.{bounded}
-use Rattle.study.proofs.Bounds.{wider-bounds}
-use Rattle.study.proofs.RoomBounds.{left-spare, spare-none, within-left}
+use Rattle.study.specs.Sums.{columnAt, plus, columnBound, inBounds, allInBounds, within}
+use Rattle.study.specs.Joining.{studyWindowCheck, sameWindow, joinRoom, joinCheck, together, joined}
+use Rattle.study.proofs.Algebra.{at, each-at}
+use Rattle.study.proofs.InBounds.{placeBound, in-count, in-is, all-at, all-is}
+use Rattle.study.proofs.Capacity.{plus-count}
 
 -- two tests of order that come out alike
 same-leb : (a b c d : ℕ) → (a ≤ b → c ≤ d) → (c ≤ d → a ≤ b) → leb a b ≡ leb c d
@@ -72,30 +71,42 @@ pub highest : (a b : ℤ) (n : ℕ) → natAbs a ≤ n → natAbs b ≤ n → lt
 highest a (pos m) n ha hb h = ap (leZ a) (difference m n hb) ∙ too-high a m n ha hb
 highest a (negsuc m) n ha hb h = absurd (true≢false h)
 
--- three tests in turn
-module _ (x y z : Bool) where
-  pub first-fails : x ≡ false → false ≡ (x && y && z)
-  first-fails h = rw h
+-- the sums of two sets of claims together, where each of the two is within the bounds: one sum that is too large decides, and counts are not below 0
+module _ (a b : List ℤ) where
+  pub sum-beyond : (k : ℕ) → k < 80 → leb (natAbs (at a k +ℤ at b k)) (placeBound columnBound k) ≡ false → false ≡ within (plus a b)
+  unfolding allInBounds inBounds
+  sum-beyond k l e = sym (every-fails 80 _ k l (rw (each-at _+ℤ_ a b k l, e) refl))
 
-  pub second-fails : x ≡ true → y ≡ false → false ≡ (x && y && z)
-  second-fails h k = rw (h, k)
+  pub sums-within : within a ≡ true → within b ≡ true → ((k : ℕ) → k < 80 → leb (natAbs (at a k +ℤ at b k)) (placeBound columnBound k) ≡ true) → true ≡ within (plus a b)
+  sums-within p q h =
+      let n = placeBound columnBound in
+      sym (all-is columnBound (plus a b)
+      (λ k l.
+      rw (each-at _+ℤ_ a b k l)
+      (in-is (n k) (columnAt k) (at a k +ℤ at b k) (leb-true (natAbs (at a k +ℤ at b k)) (n k) (h k l))
+      (λ u.
+      plus-count (at a k) (at b k) (in-count (n k) (columnAt k) (at a k) (all-at columnBound a p k l) u)
+      (in-count (n k) (columnAt k) (at b k) (all-at columnBound b q k l) u)))))
 
-  pub third-decides : x ≡ true → y ≡ true → z ≡ (x && y && z)
-  third-decides h k = rw (h, k)
+-- check 9 of a join, test by test
+module _ (s t : Study) where
+  pub many-claims : 500000 < s .taken + t .taken → false ≡ joinRoom s t
+  unfolding joinRoom
+  many-claims h = rw (lt-leb (s .taken + t .taken) 500000 h) refl
 
--- n times the bounds of refusal 9, of the sums of two sets of claims together, and of more times
-pub plus-within : (n : ℕ) (a b : Sums)
-    → bounded (27000000000 * n) (27000000000000000 * n) (500000 * n)
-    (lentSums (signedEach _+ℤ_ (a .thirtieths) (b .thirtieths)) (countEach _+_ (a .closings) (b .closings))
-    (signedEach _+ℤ_ (a .recoveries) (b .recoveries)) (signedEach _+ℤ_ (a .deaths) (b .deaths)))
-    ≡ within n (plus a b)
-unfolding bounded within each
-plus-within n a b = refl
+  module _ (few : s .taken + t .taken ≤ 500000) where
+    pub one-beyond : within (s .sums) ≡ false → false ≡ joinRoom s t
+    unfolding joinRoom
+    one-beyond e = rw (le-leb (s .taken + t .taken) 500000 few, e) refl
 
-pub wider-within : (m n : ℕ) (s : Sums) → m ≤ n → within m s ≡ true → within n s ≡ true
-wider-within m n s h w =
-    sym (spare-none n s)
-    ∙ left-spare n 0 s (wider-bounds _ _ _ s _ _ _ (mul-le-mul-left 27000000000 h) (mul-le-mul-left 27000000000000000 h) (mul-le-mul-left 500000 h) (within-left m s w))
+    module _ (one : within (s .sums) ≡ true) where
+      pub other-beyond : within (t .sums) ≡ false → false ≡ joinRoom s t
+      unfolding joinRoom
+      other-beyond e = rw (le-leb (s .taken + t .taken) 500000 few, one, e) refl
+
+      pub both-decide : within (t .sums) ≡ true → within (plus (s .sums) (t .sums)) ≡ joinRoom s t
+      unfolding joinRoom
+      both-decide e = rw (le-leb (s .taken + t .taken) 500000 few, one, e) refl
 
 -- the checks of a join in their order
 module _ (s t : Study) where
@@ -137,24 +148,22 @@ module _ (s t : Study) where
 -- what a join that passes has room for
 pub record Joins (s t : Study) : Type 0 where
   pub few : s .taken + t .taken ≤ 500000
-  pub sums : within 200 (plus (s .sums) (t .sums)) ≡ true
-  pub weighted : within 200 (plus (s .weighted) (t .weighted)) ≡ true
+  pub sums : within (plus (s .sums) (t .sums)) ≡ true
 
 pub joins : (s t : Study) → joinCheck s t ≡ 0 → Joins s t
-unfolding joinCheck joinRoom joinedWithin
+unfolding joinCheck joinRoom
 joins s t h =
     let full = check (joinRoom s t) refuse-full in
     let other = check (sameWindow (s .window) (t .window)) refuse-other-window in
     let past = then-passed (studyWindowCheck t) (other then full) (then-passed (studyWindowCheck s) (studyWindowCheck t then other then full) h .1) .1 in
     let room = check-passed (joinRoom s t) refuse-full (omega tests) (then-passed other full past .1) in
     let few = leb (s .taken + t .taken) 500000 in
-    let one = joinedWithin 1 (s .sums) (t .sums) in
-    let two = joinedWithin 200 (s .weighted) (t .weighted) in
-    let sum : (n : ℕ) (a b : Sums) → joinedWithin n a b ≡ true → within n (plus a b) ≡ true = λ n a b. and-right (within n a && within n b) (within n (plus a b)) in
+    let one = within (s .sums) in
+    let two = within (t .sums) in
+    let both = within (plus (s .sums) (t .sums)) in
     record {
-      few = leb-true (s .taken + t .taken) 500000 (and-left few one (and-left (few && one) two room));
-      sums = wider-within 1 200 (plus (s .sums) (t .sums)) (omega tests) (sum 1 (s .sums) (t .sums) (and-right few one (and-left (few && one) two room)));
-      weighted = sum 200 (s .weighted) (t .weighted) (and-right (few && one) two room);
+      few = leb-true (s .taken + t .taken) 500000 (and-left few one (and-left (few && one) two (and-left (few && one && two) both room)));
+      sums = and-right (few && one && two) both room;
     }
 
 -- the answers
@@ -163,9 +172,9 @@ module _ (s t : Study) (n : ℕ) (e : n ≡ joinCheck s t) where
   unfolding joined
   join-refused h = rw (← e, ne-eqb n 0 h) refl
 
-  pub join-taken : n ≡ 0 → (a b : Sums) → a ≡ plus (s .sums) (t .sums) → b ≡ plus (s .weighted) (t .weighted)
-      → _≡_ {A = Answer} (record { refused = 0; study = record { window = s .window; taken = s .taken + t .taken; sums = a; weighted = b } }) (joined s t)
+  pub join-taken : n ≡ 0 → (a : List ℤ) → a ≡ plus (s .sums) (t .sums)
+      → _≡_ {A = Answer} (record { refused = 0; study = record { window = s .window; taken = s .taken + t .taken; sums = a } }) (joined s t)
   unfolding joined together
-  join-taken h a b p q =
+  join-taken h a p =
       let z : joinCheck s t ≡ 0 = sym e ∙ h in
-      rw z (λ i. record { refused = 0; study = record { window = s .window; taken = s .taken + t .taken; sums = p i; weighted = q i } })
+      rw z (λ i. record { refused = 0; study = record { window = s .window; taken = s .taken + t .taken; sums = p i } })

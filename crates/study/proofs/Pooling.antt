@@ -17,16 +17,15 @@ use Rattle.claim_months.specs.declared.Window.{Window}
 use Rattle.claim_months.specs.Windows.{windowSound, windowCheck}
 use Rattle.claim_months.proofs.SpanAnswers.{window-passes}
 use Rattle.claim_months.proofs.Parts.{parts-map, parts-every, every-map}
-use Rattle.study.specs.declared.Sums.{Sums}
 use Rattle.study.specs.declared.Study.{Study}
 use Rattle.study.specs.declared.Answer.{Answer}
 use Rattle.study.specs.Sums.{none, plus, within}
-use Rattle.study.specs.Study.{shareOf, weightedShare, sumOver, studyOf, opened}
+use Rattle.study.specs.Study.{shareOf, studyOf, opened}
 use Rattle.study.specs.Moves.{remaining}
-use Rattle.study.specs.Joining.{sameWindow, joinedWithin, joinRoom, joinCheck, together, joined, addedAll, Pool, poolAnswer, poolClaims, poolWindow, Poolable, PoolsClaims, Pooling}
+use Rattle.study.specs.Joining.{sameWindow, joinRoom, joinCheck, together, joined, addedAll, Pool, poolAnswer, poolClaims, poolWindow, Poolable, PoolsClaims, Pooling}
 use Rattle.study.proofs.Algebra.{Shaped}
 use Rattle.study.proofs.SumOver.{All, sums, sum-append}
-use Rattle.study.proofs.Capacity.{Accepted as AcceptedClaim, share-shaped, weighted-shaped, built-within}
+use Rattle.study.proofs.Capacity.{Accepted as AcceptedClaim, share-shaped, built-within}
 use Rattle.study.proofs.Built.{study-same, added-built}
 use Rattle.study.proofs.Totals.{built-total}
 use Rattle.study.proofs.Members.{front, same-sums, all-append}
@@ -36,38 +35,23 @@ use Rattle.study.proofs.TakenBack.{Kept, remaining-kept, accepted-windo
 pub both-kept : (rates : List ℕ) (xs ys : List Claim) → Kept rates xs → Kept rates ys → length (xs ++ ys) ≤ 500000 → Kept rates (xs ++ ys)
 both-kept rates xs ys p q h = record { accepted = all-append (AcceptedClaim rates) xs ys (p .accepted) (q .accepted); few = h }
 
--- two sums and both together within bounds
-all-within : (n : ℕ) (a b : Sums) → within n a ≡ true → within n b ≡ true → within n (plus a b) ≡ true → joinedWithin n a b ≡ true
-unfolding joinedWithin
-all-within n a b p q r = rw (p, q, r)
-
 module _ (w : Window) (rates : List ℕ) (xs ys : List Claim) where
   together-built : together (studyOf w rates xs) (studyOf w rates ys) ≡ studyOf w rates (xs ++ ys)
   unfolding together studyOf
   together-built =
-      let s : (share : Claim → Sums) → ((c : Claim) → Shaped (share c))
-      → plus (sumOver plus none share xs) (sumOver plus none share ys) ≡ sumOver plus none share (xs ++ ys) =
-      λ share shaped. sym (sum-append plus none Shaped sums rates share shaped xs ys) in
-      λ i.
-      record {
-        window = w;
-        taken = sym (length-append xs ys) i;
-        sums = s (shareOf w rates) (share-shaped w rates) i;
-        weighted = s (weightedShare w rates) (weighted-shaped w rates) i;
-      }
+      let s = sym (sum-append plus none Shaped sums rates (shareOf w rates) (share-shaped w rates) xs ys) in
+      λ i. record { window = w; taken = sym (length-append xs ys) i; sums = s i }
 
   module _ (p : Kept rates xs) (q : Kept rates ys) where
     -- there is room for 500,000 claims together, and no more
     room-both : length (xs ++ ys) ≤ 500000 → joinRoom (studyOf w rates xs) (studyOf w rates ys) ≡ true
     unfolding joinRoom together studyOf
     room-both h =
-        let x = built-within w rates xs (p .accepted) (p .few) in
-        let y = built-within w rates ys (q .accepted) (q .few) in
-        let z = built-within w rates (xs ++ ys) (both-kept rates xs ys p q h .accepted) h in
         rw (
           le-leb (length xs + length ys) 500000 (omega (tests, length-append xs ys)),
-          all-within 1 _ _ (x .0) (y .0) (ap (λ (s : Study). within 1 (s .sums)) together-built ∙ z .0),
-          all-within 200 _ _ (x .1) (y .1) (ap (λ (s : Study). within 200 (s .weighted)) together-built ∙ z .1),
+          built-within w rates xs (p .accepted) (p .few),
+          built-within w rates ys (q .accepted) (q .few),
+          ap (λ (s : Study). within (s .sums)) together-built ∙ built-within w rates (xs ++ ys) (both-kept rates xs ys p q h .accepted) h,
         )
 
     room-is : joinRoom (studyOf w rates xs) (studyOf w rates ys) ≡ leb (length (xs ++ ys)) 500000

@@ -14,9 +14,9 @@ use Rattle.basics.proofs.Tests.{tests, by}
 use Rattle.claim_months.specs.declared.Claim.{Claim}
 use Rattle.claim_months.specs.Windows.{total}
 use Rattle.study.specs.Sums.{none, plus}
-use Rattle.study.specs.Study.{sumOver}
+use Rattle.study.specs.Study.{sumOver, accepted, ownRefusal}
 use Rattle.study.proofs.Algebra.{Shaped, plus-comm, plus-assoc, plus-none, none-shaped, each-shaped}
-use Rattle.study.specs.Demand3.{occurrences, IsOrder, nthClaim, accepted, ownRefusal}
+use Rattle.study.specs.Demand3.{occurrences, IsOrder, nthClaim}
 
 -- each claim of a list has a property
 abbrev pub All : (Claim → Type 0) → List Claim → Type 0
@@ -44,7 +44,7 @@ pub counts : Commutes _+_ 0 AnyCount
 counts = record { assoc = add-assoc; comm = add-comm; left = λ x g. zero-add x; good-none = tt; good-add = λ x y. tt }
 
 pub sums : Commutes plus none Shaped
-sums = record { assoc = plus-assoc; comm = plus-comm; left = plus-none; good-none = none-shaped; good-add = each-shaped _+ℤ_ _+_ }
+sums = record { assoc = plus-assoc; comm = plus-comm; left = plus-none; good-none = none-shaped; good-add = each-shaped _+ℤ_ }
 
 module _ {A : Type 0} (add : A → A → A) (zero-sum : A) (Good : A → Type 0) (laws : Commutes add zero-sum Good) where
   pub swap : (a b c d : A) → add (add a b) (add c d) ≡ add (add a c) (add b d)

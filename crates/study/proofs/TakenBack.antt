@@ -1,17 +1,20 @@
 -- Request No. 10, the proof. A study after allowed moves is that of the claims remaining: an addition puts a claim in front of them, and a withdrawn one
 -- can be moved to their front, where its share was added last.
 -- Assumes nothing.
-use Prim.Native.Nat.{ℕ, zero, suc, _+_, _-_, _≤_, _<_}
+use Prim.Native.Nat.{ℕ, suc, _+_, _-_, _≤_, _<_}
 use mathlib.Core.Path.{_≡_, refl, sym, ap, _∙_}
-use mathlib.Core.Bool.{Bool, true, _&&_}
+use mathlib.Core.Bool.{Bool, true, _&&_, cond, false≢true}
 use mathlib.Core.List.{List, [], _∷_}
-use lib.ListN.{length, getD}
+use lib.ListN.{length}
 use lib.Dec.{ltb, eqb}
+use lib.IntN.{ℤ, pos, negsuc, _+ℤ_}
+use lib.Signed.{nonNeg, leZ}
 use borrow.Author.Tests.{eqb-true, ltb-true, le-leb, lt-ltb}
 use Rattle.basics.specs.Pick.{pick}
 use Rattle.basics.specs.Checks.{check, _then_, refuse-full, refuse-withdrawal}
 use Rattle.basics.proofs.Tests.{tests, by, and-left, and-right}
 use Rattle.basics.proofs.Checks.{then-next}
+use Rattle.basics.proofs.Tables.{every-is}
 use Rattle.claim_months.specs.declared.Claim.{Claim}
 use Rattle.claim_months.specs.declared.Window.{Window}
 use Rattle.claim_months.specs.Claim.{claimCheck}
@@ -20,37 +23,39 @@ use Rattle.claim_months.proofs.DateWindows.{dates-sound}
 use Rattle.claim_months.proofs.SpanAnswers.{window-passes}
 use Rattle.claim_months.proofs.Parts.{parts-map, parts-every, every-map}
 use Rattle.rates.specs.Rates.{rateCheck}
-use Rattle.study.specs.declared.Sums.{Sums}
 use Rattle.study.specs.declared.Study.{Study}
 use Rattle.study.specs.declared.Answer.{Answer}
-use Rattle.study.specs.Sums.{countEach, each, none, plus, minus}
-use Rattle.study.specs.Study.{shareOf, weightedShare, sumOver, studyOf, opened, sumsWithin, added}
-use Rattle.study.specs.Demand3.{ownRefusal}
-use Rattle.study.specs.Withdrawing.{withdrawRoom, coversTo, covers, canWithdraw, withdrawCheck, withoutClaim, withdrawn}
+use Rattle.study.specs.Sums.{columnAt, isCount, none, plus, minus}
+use Rattle.study.specs.Study.{shareOf, sumOver, studyOf, opened, added, ownRefusal}
+use Rattle.study.specs.Withdrawing.{withdrawRoom, covers, canWithdraw, withdrawCheck, withoutClaim, withdrawn}
 use Rattle.study.specs.Moves.{Move, timesIn, without, remainingAfter, remaining, allowedAfter, Allowed, moved, movedAll, moveAnswers, dueAnswers, Dates, datesOf, Accepted, movedIn, answersIn, TakenBack}
-use Rattle.study.proofs.Algebra.{Shaped, count-at, plus-comm, minus-plus}
+use Rattle.study.proofs.Algebra.{Shaped, at, each-at, plus-comm, minus-plus}
 use Rattle.study.proofs.SumOver.{All, sums, good-sum, same-length}
-use Rattle.study.proofs.Capacity.{Accepted as AcceptedClaim, accepted-checks, accepted-rates, share-shaped, weighted-shaped, built-within}
+use Rattle.study.proofs.Capacity.{Accepted as AcceptedClaim, accepted-checks, accepted-rates, share-shaped, shares-sized, built-within}
 use Rattle.study.proofs.Built.{fresh-built, study-same, numberAfter, added-after}
 use Rattle.study.proofs.Totals.{built-total}
 use Rattle.study.proofs.Members.{to-front, all-in, all-without, length-without}
 use Rattle.study.proofs.Demand3.{opens-window}
 
--- sums cover what was added to them
-covers-to : (xs ys : List ℕ) (n : ℕ) → n ≤ 25 → coversTo (countEach _+_ xs ys) xs n ≡ true
-unfolding coversTo
-covers-to xs ys zero h = refl
-covers-to xs ys (suc n) h =
-    let e = count-at _+_ xs ys n (omega tests) in
-    rw (covers-to xs ys n (omega tests), le-leb (getD xs n 0) (getD (countEach _+_ xs ys) n 0) (omega tests))
+-- what is not below 0 may be added
+add-more : (x y : ℤ) → nonNeg y ≡ true → leZ x (x +ℤ y) ≡ true
+add-more (pos m) (pos n) h = le-leb m (m + n) (omega tests)
+add-more (negsuc m) (pos n) h =
+    by (ltb n (suc m)) (λ t. leZ (negsuc m) (cond t (negsuc (suc m - suc n)) (pos (n - suc m))) ≡ true) (λ q. le-leb (suc m - suc n) m (omega tests)) (λ q. refl)
+add-more x (negsuc n) h = absurd (false≢true h)
 
-covers-plus : (a b : Sums) → covers (plus a b) a ≡ true
-unfolding covers each
-covers-plus a b = covers-to (a .closings) (b .closings) 25 (omega tests)
+-- sums cover what they were added to, where no count of them is below 0
+covers-plus : (a b : List ℤ) → ((k : ℕ) → k < 80 → isCount (columnAt k) ≡ true → nonNeg (at b k) ≡ true) → covers (plus a b) a ≡ true
+unfolding covers
+covers-plus a b h =
+    every-is 80 _
+    (λ k l.
+    by (isCount (columnAt k)) (λ t. isCount (columnAt k) ≡ t → pick t (leZ (at a k) (at (plus a b) k)) true ≡ true)
+    (λ q u. rw (each-at _+ℤ_ a b k l) (add-more (at a k) (at b k) (h k l u))) (λ q u. refl) refl)
 
 -- and taken off, it is gone
-taken-off : (a b : Sums) → Shaped b → minus (plus a b) a ≡ b
-taken-off a b s = ap (λ (x : Sums). minus x a) (plus-comm a b) ∙ minus-plus b a s
+taken-off : (a b : List ℤ) → Shaped b → minus (plus a b) a ≡ b
+taken-off a b s = ap (λ (x : List ℤ). minus x a) (plus-comm a b) ∙ minus-plus b a s
 
 module _ (w : Window) (rates : List ℕ) where
   -- the study of a claim and some others, without the claim
@@ -58,27 +63,19 @@ module _ (w : Window) (rates : List ℕ) where
   unfolding withoutClaim studyOf sumOver
   without-front c cs =
       let n : suc (length cs) - 1 ≡ length cs = omega tests in
-      let s : (share : Claim → Sums) → ((c : Claim) → Shaped (share c))
-      → minus (plus (share c) (sumOver plus none share cs)) (share c) ≡ sumOver plus none share cs =
-      λ share shaped. taken-off (share c) (sumOver plus none share cs) (good-sum plus none Shaped sums rates share shaped cs) in
-      λ i. record { window = w; taken = n i; sums = s (shareOf w rates) (share-shaped w rates) i; weighted = s (weightedShare w rates) (weighted-shaped w rates) i }
+      let s = taken-off (shareOf w rates c) (sumOver plus none (shareOf w rates) cs) (good-sum plus none Shaped sums rates (shareOf w rates) (share-shaped w rates) cs) in
+      λ i. record { window = w; taken = n i; sums = s i }
 
   -- it has room, and its sums cover the claim's
   front-room : (cs : List Claim) → All (AcceptedClaim rates) cs → length cs ≤ 500000 → withdrawRoom (studyOf w rates cs) ≡ true
-  unfolding withdrawRoom sumsWithin studyOf
-  front-room cs a h =
-      let b = built-within w rates cs a h in
-      rw (le-leb (length cs) 500000 h, b .0, b .1)
+  unfolding withdrawRoom studyOf
+  front-room cs a h = rw (le-leb (length cs) 500000 h, built-within w rates cs a h)
 
-  front-covers : (c : Claim) (cs : List Claim) → canWithdraw (studyOf w rates (c ∷ cs)) c rates ≡ true
+  front-covers : (c : Claim) (cs : List Claim) → All (AcceptedClaim rates) cs → canWithdraw (studyOf w rates (c ∷ cs)) c rates ≡ true
   unfolding canWithdraw studyOf sumOver
-  front-covers c cs =
+  front-covers c cs a =
       let t : ltb 0 (suc (length cs)) ≡ true = lt-ltb 0 (suc (length cs)) (omega tests) in
-      rw (
-        t,
-        covers-plus (shareOf w rates c) (sumOver plus none (shareOf w rates) cs),
-        covers-plus (weightedShare w rates c) (sumOver plus none (weightedShare w rates) cs),
-      )
+      rw (t, covers-plus (shareOf w rates c) (sumOver plus none (shareOf w rates) cs) (shares-sized w rates cs a .count))
 
 -- the claims of a study as moves leave them: accepted ones, up to 500,000
 pub record Kept (rates : List ℕ) (cs : List Claim) : Type 0 where
@@ -120,7 +117,7 @@ module _ (w : Window) (rates : List ℕ) (sound : windowSound (w .first .0) (w .
       then-next (windowCheck (s .window .first .0) (s .window .last .0)) _ (window-passes (w .first .0) (w .last .0) sound)
       ∙ then-next (claimCheck c) _ (accepted-checks rates c ok) ∙ then-next (rateCheck rates (c .cell)) _ (accepted-rates rates c ok)
       ∙ then-next (check (withdrawRoom s) refuse-full) _ (ap (λ (t : Bool). check t refuse-full) (front-room w rates (c ∷ cs) (k .accepted) (k .few)))
-      ∙ ap (λ (t : Bool). check t refuse-withdrawal) (front-covers w rates c cs)
+      ∙ ap (λ (t : Bool). check t refuse-withdrawal) (front-covers w rates c cs (k .accepted .1))
 
   withdrawn-front : (c : Claim) (cs : List Claim) → Kept rates (c ∷ cs)
       → withdrawn (studyOf w rates (c ∷ cs)) c rates ≡ record { refused = 0; study = studyOf w rates cs }

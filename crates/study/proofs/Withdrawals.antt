@@ -1,224 +1,178 @@
 -- What a withdrawal's checks say of the study and the share: where they pass no number wraps, and the answer is the paper's.
 -- Assumes nothing.
 use Prim.Native.Nat.{ℕ, _-_, _*_, _≤_, _<_}
-use mathlib.Core.Path.{_≡_, refl, sym, ap, ap₂, _∙_}
+use mathlib.Core.Path.{_≡_, refl, sym, ap, _∙_}
 use mathlib.Core.Bool.{Bool, true, false, not, _&&_}
 use mathlib.Core.List.{List}
-use lib.ListN.{length, getD}
+use native.Mathlib.Nat.{mul-le-mul}
 use lib.Dec.{leb, ltb, eqb}
-use lib.IntN.{ℤ, pos, natAbs}
-use borrow.Author.Tests.{not-true, not-false, le-leb, lt-leb, lt-ltb, ltb-true, eqb-true, ne-eqb}
+use lib.IntN.{ℤ, pos, negsuc}
+use lib.Signed.{ltZ, leZ}
+use borrow.Author.Tests.{le-leb, lt-leb, le-ltb, lt-ltb, ltb-true, ne-eqb}
+use Rattle.basics.specs.Pick.{pick}
+use Rattle.basics.specs.Limits.{most-benefit}
 use Rattle.basics.specs.Checks.{check, _then_, refuse-full, refuse-withdrawal}
-use Rattle.basics.specs.Tables.{allWithin}
+use Rattle.basics.specs.Tables.{allAtMost}
 use Rattle.basics.proofs.Tests.{tests, by, and-left, and-right}
 use Rattle.basics.proofs.Checks.{then-passed, then-next, then-fails, then-assoc, check-passed}
-use Rattle.basics.proofs.Tables.{within-list}
+use Rattle.basics.proofs.Tables.{every-is, every-fails, within-list}
 use Rattle.claim_months.specs.declared.Claim.{Claim}
 use Rattle.claim_months.specs.declared.Window.{Window}
-use Rattle.claim_months.specs.Claim.{claimCheck}
+use Rattle.claim_months.specs.Claim.{claimCheck, weight}
 use Rattle.claim_months.specs.Windows.{windowCheck}
-use Rattle.rates.specs.Rates.{rateCheck}
-use Rattle.study.specs.declared.ClaimShare.{ClaimShare}
+use Rattle.rates.specs.declared.Kind.{Kind}
+use Rattle.rates.specs.Prepared.{checkOf}
 use Rattle.study.specs.declared.Study.{Study}
-use Rattle.study.specs.declared.Sums.{Sums}
-use Rattle.study.specs.Sums.{minus, within}
-use Rattle.study.specs.Study.{shareOf, weightedShare, sumsWithin}
-use Rattle.study.specs.Demand3.{ownRefusal}
-use Rattle.study.specs.PreparedAdding.{lentStudy}
-use Rattle.study.specs.Withdrawing.{covers, withdrawRoom, canWithdraw, withdrawCheck, withoutClaim, withdrawn}
-use Rattle.study.specs.Private.{shareNumber, ShareIs, hasShare, shareSmall}
-use Rattle.study.proofs.Algebra.{Shaped}
-use Rattle.study.proofs.Bounds.{wider, wider-bounds}
-use Rattle.study.proofs.RoomBounds.{left-spare, spare-none, both-within, within-left}
-use Rattle.study.proofs.Capacity.{Accepted, Sized, share-sized, share-shaped, weighted-sized, weighted-shaped}
-use Rattle.study.proofs.WithSpan.{answer}
+use Rattle.study.specs.declared.Answer.{Answer}
+use Rattle.study.specs.Sums.{columnAt, isCount, timesAt, none, minus, within}
+use Rattle.study.specs.PreparedAdding.{shareWith, lentStudy, addedToLent}
+use Rattle.study.specs.Withdrawing.{withdrawRoom, covers}
+use Rattle.study.specs.PreparedWithdrawing.{canWithdrawWith, withdrawCheckWith, withdrawnWith}
+use Rattle.study.specs.Private.{shareNumber, smallShare, lastChecks}
+use Rattle.study.proofs.Algebra.{Shaped, at}
+use Rattle.study.proofs.InBounds.{times-most}
+use Rattle.study.proofs.Capacity.{sizeIn, Sized, records-shaped, table-sized}
+use Rattle.study.proofs.OwnShare.{alone-number, alone-share}
 
--- sums within the bounds of refusal 9 are within 200 times those
-within-more : (s : Sums) → within 1 s ≡ true → within 200 s ≡ true
-within-more s h =
-    sym (spare-none 200 s) ∙ left-spare 200 0 s (wider-bounds _ _ _ s _ _ _ (omega tests) (omega tests) (omega tests) (within-left 1 s h))
+-- one number is at least another unless it is below it
+not-below : (x y : ℤ) → leZ y x ≡ not (ltZ x y)
+not-below (pos m) (pos n) = by (ltb m n) (λ t. leb n m ≡ not t) (λ q. lt-leb n m (omega tests)) (λ q. le-leb n m (omega tests))
+not-below (pos m) (negsuc n) = refl
+not-below (negsuc m) (pos n) = refl
+not-below (negsuc m) (negsuc n) = by (ltb n m) (λ t. leb m n ≡ not t) (λ q. lt-leb m n (omega tests)) (λ q. le-leb m n (omega tests))
 
--- each list of sums that a share is taken off has numbers of 5.4 × 10¹⁸ at most
-pub record Lists (t : ℕ) (s : Sums) : Type 0 where
-  pub thirtieths : allWithin t (s .thirtieths) ≡ true
-  pub recoveries : allWithin t (s .recoveries) ≡ true
-  pub deaths : allWithin t (s .deaths) ≡ true
+-- whether a place's count covers that of a share
+abbrev pub coveredAt : List ℤ → List ℤ → ℕ → Bool
+coveredAt s share k = pick (isCount (columnAt k)) (leZ (at share k) (at s k)) true
 
-pub sums-lists : (s : Sums) → within 200 s ≡ true → Lists 5400000000000000000 s
-sums-lists s h =
-    let b = within-left 200 s h in
+module _ (s share : List ℤ) where
+  pub no-count : (k : ℕ) → isCount (columnAt k) ≡ false → coveredAt s share k ≡ true
+  no-count k e = rw e
+
+  pub count-covered : (k : ℕ) → isCount (columnAt k) ≡ true → ltZ (at s k) (at share k) ≡ false → coveredAt s share k ≡ true
+  count-covered k e h = rw (e, not-below (at s k) (at share k), h)
+
+  pub count-short : (k : ℕ) → k < 80 → isCount (columnAt k) ≡ true → ltZ (at s k) (at share k) ≡ true → false ≡ covers s share
+  unfolding covers
+  count-short k l e h = sym (every-fails 80 (coveredAt s share) k l (rw (e, not-below (at s k) (at share k), h)))
+
+  pub all-covered : ((k : ℕ) → k < 80 → coveredAt s share k ≡ true) → true ≡ covers s share
+  unfolding covers
+  all-covered h = sym (every-is 80 (coveredAt s share) h)
+
+-- the checks 9 and 18, test by test
+module _ (taken : ℕ) (s share : List ℤ) where
+  pub many-taken : 500000 < taken → refuse-full ≡ lastChecks taken s share
+  unfolding lastChecks _then_
+  many-taken h = rw (lt-leb taken 500000 h) refl
+
+  module _ (few : taken ≤ 500000) where
+    pub sums-beyond : within s ≡ false → refuse-full ≡ lastChecks taken s share
+    unfolding lastChecks _then_
+    sums-beyond e = rw (le-leb taken 500000 few, e) refl
+
+    module _ (room : within s ≡ true) where
+      pub none-taken : taken ≡ 0 → refuse-withdrawal ≡ lastChecks taken s share
+      unfolding lastChecks _then_
+      none-taken h = rw (le-leb taken 500000 few, room, le-ltb 0 taken (omega tests)) refl
+
+      module _ (some : 0 < taken) where
+        pub counts-short : covers s share ≡ false → refuse-withdrawal ≡ lastChecks taken s share
+        unfolding lastChecks _then_
+        counts-short e = rw (le-leb taken 500000 few, room, lt-ltb 0 taken some, e) refl
+
+        pub may-withdraw : covers s share ≡ true → 0 ≡ lastChecks taken s share
+        unfolding lastChecks _then_
+        may-withdraw e = rw (le-leb taken 500000 few, room, lt-ltb 0 taken some, e) refl
+
+-- what a withdrawal that passes them rests on
+pub record Withdrawable (taken : ℕ) (s : List ℤ) : Type 0 where
+  pub some : 0 < taken
+  pub sums : within s ≡ true
+
+last-passed : (taken : ℕ) (s share : List ℤ) → lastChecks taken s share ≡ 0 → Withdrawable taken s
+unfolding lastChecks
+last-passed taken s share e =
+    let few = leb taken 500000 in
+    let some = ltb 0 taken in
+    let p = then-passed (check (few && within s) refuse-full) _ e in
     record {
-      thirtieths = wider (27000000000 * 200) 5400000000000000000 (s .thirtieths) (omega tests) (b .thirtieths);
-      recoveries = b .recoveries;
-      deaths = b .deaths;
+      some = ltb-true 0 taken (and-left some (covers s share) (check-passed (some && covers s share) 18 (omega tests) (p .1)));
+      sums = and-right few (within s) (check-passed (few && within s) 9 (omega tests) (p .0));
     }
 
-pub share-lists : (s : Sums) → shareSmall s ≡ true → Lists 1000000000000000000 s
-unfolding shareSmall
-share-lists s h =
-    let m : ℕ = 1000000000000000000 in
-    let a = allWithin m (s .thirtieths) in
-    let b = allWithin m (s .recoveries) in
-    let c = allWithin m (s .deaths) in
-    let ab = and-left (a && b) c h in
-    record { thirtieths = and-left a b ab; recoveries = and-right a b ab; deaths = and-right (a && b) c h }
+-- the share of a claim without a refusal is small, with a table of 32-bit numbers
+size-most : (column : ℕ) → sizeIn 231928233930000 column * 1 ≤ 231928233930000
+unfolding sizeIn
+size-most column =
+    by (isCount column) (λ t. pick t 1 (pick (eqb column 0) 54000 231928233930000) * 1 ≤ 231928233930000) (λ q. omega tests)
+    (λ q. by (eqb column 0) (λ t. pick t 54000 231928233930000 * 1 ≤ 231928233930000) (λ q. omega tests) (λ q. omega tests))
 
--- what a claim has of either set is small
-sized-small : (m : ℕ) (s : Sums) → m ≤ 200 → Shaped s → Sized 54000000000 m s → shareSmall s ≡ true
-unfolding shareSmall
-sized-small m s h z p =
-    let l : (u : ℕ) (xs : List ℤ) → u * m ≤ 1000000000000000000 → length xs ≡ 5 → ((k : ℕ) → k < 5 → natAbs (getD xs k (pos 0)) ≤ u * m)
-    → allWithin 1000000000000000000 xs ≡ true =
-    λ u xs g e f. within-list 1000000000000000000 xs (λ k q. let t = f k (omega tests) in omega tests) in
-    rw (
-      l 54000 (s .thirtieths) (omega tests) (z .thirtieths) (p .thirtieths),
-      l 54000000000 (s .recoveries) (omega tests) (z .recoveries) (p .recoveries),
-      l 54000000000 (s .deaths) (omega tests) (z .deaths) (p .deaths),
-    )
+sized-small : (s : List ℤ) → Shaped s → Sized 231928233930000 1 s → smallShare s ≡ true
+unfolding smallShare
+sized-small s e z =
+    within-list 1000000000000000000 s
+    (λ k h.
+    let size = z .size k (omega tests) in
+    let most : timesAt most-benefit k * (sizeIn 231928233930000 (columnAt k) * 1) ≤ 200 * 231928233930000 = mul-le-mul (times-most k) (size-most (columnAt k)) in
+    omega tests)
 
--- a claim whose number is 0 is accepted
-number-accepted : (c : Claim) (w : Window) (rates : List ℕ) → shareNumber c w rates ≡ 0 → Accepted rates c
-unfolding shareNumber ownRefusal
-number-accepted c w rates e = then-passed (windowCheck (w .first .0) (w .last .0)) _ e .1
+module _ (kind : Kind) (c : Claim) (w : Window) (table : List ℕ) where
+  claim-passed : shareNumber kind c w table ≡ 0 → claimCheck c ≡ 0
+  unfolding shareNumber
+  claim-passed e = then-passed (claimCheck c) _ (then-passed (windowCheck (w .first .0) (w .last .0)) _ e .1) .0
 
-share-small : (c : Claim) (w : Window) (rates : List ℕ) → shareNumber c w rates ≡ 0 → shareSmall (shareOf w rates c) ≡ true
-share-small c w rates e =
-    sized-small 1 (shareOf w rates c) (omega tests) (share-shaped w rates c) (share-sized w rates c (number-accepted c w rates e))
+  share-small : shareNumber kind c w table ≡ 0 → allAtMost 4294967295 table ≡ true → smallShare (shareWith kind w table c) ≡ true
+  unfolding shareWith
+  share-small e small = sized-small (shareWith kind w table c) (records-shaped _ _ (weight c) _) (table-sized kind w table c (claim-passed e) small)
 
-weighted-small : (c : Claim) (w : Window) (rates : List ℕ) → shareNumber c w rates ≡ 0 → shareSmall (weightedShare w rates c) ≡ true
-weighted-small c w rates e =
-    sized-small 200 (weightedShare w rates c) (omega tests) (weighted-shaped w rates c) (weighted-sized w rates c (number-accepted c w rates e))
+-- the answers, where n and x are what adding the claim to no sums answered and left: they are the claim's number and its share
+module _ (kind : Kind) (s : Study) (c : Claim) (table : List ℕ) (n : ℕ) (x : List ℤ)
+    (p : n ≡ addedToLent true kind table c (lentStudy (s .window) 0 none) .refused)
+    (q : x ≡ addedToLent true kind table c (lentStudy (s .window) 0 none) .study .sums) where
+  abbrev share : List ℤ
+  share = shareWith kind (s .window) table c
 
--- check 9, test by test
-module _ (s : Study) where
-  pub many-taken : 500000 < s .taken → true ≡ not (withdrawRoom s)
-  unfolding withdrawRoom
-  many-taken h = rw (lt-leb (s .taken) 500000 h) refl
+  own-number : n ≡ shareNumber kind c (s .window) table
+  own-number = p ∙ alone-number kind c (s .window) table
 
-  pub room-decides : s .taken ≤ 500000 → (r : Bool) → r ≡ sumsWithin (s .sums) (s .weighted) → not r ≡ not (withdrawRoom s)
-  unfolding withdrawRoom
-  room-decides h r e = rw (le-leb (s .taken) 500000 h) (ap not e)
-
--- check 18, test by test
-module _ (s : Study) (a b : Sums) where
-  pub none-taken : s .taken ≡ 0 → false ≡ hasShare s a b
-  unfolding hasShare
-  none-taken e = rw e refl
-
-  module _ (h : 0 < s .taken) where
-    pub sums-short : covers (s .sums) a ≡ false → false ≡ hasShare s a b
-    unfolding hasShare
-    sums-short e = rw (lt-ltb 0 (s .taken) h, e) refl
-
-    pub weighted-decides : covers (s .sums) a ≡ true → covers (s .weighted) b ≡ hasShare s a b
-    unfolding hasShare
-    weighted-decides e = rw (lt-ltb 0 (s .taken) h, e) refl
-
--- the checks in their order
-abbrev pub codeCheck : Study → ClaimShare → ℕ
-codeCheck s r = r .refused then check (withdrawRoom s) refuse-full then check (hasShare s (r .sums) (r .weighted)) refuse-withdrawal
-
-module _ (s : Study) (r : ClaimShare) where
-  pub share-refused : (r .refused ≡ 0 → ⊥) → r .refused ≡ codeCheck s r
-  share-refused h = sym (then-fails (r .refused) _ h)
-
-  module _ (z : r .refused ≡ 0) where
-    last-two : (t u : Bool) → withdrawRoom s ≡ t → hasShare s (r .sums) (r .weighted) ≡ u
-        → codeCheck s r ≡ (check t refuse-full then check u refuse-withdrawal)
-    last-two t u e f = then-next (r .refused) _ z ∙ ap₂ (λ (t u : Bool). check t refuse-full then check u refuse-withdrawal) e f
-
-    pub study-full : not (withdrawRoom s) ≡ true → 9 ≡ codeCheck s r
-    unfolding _then_
-    study-full e = sym (last-two false _ (not-true _ e) refl)
-
-    module _ (room : not (withdrawRoom s) ≡ false) where
-      pub share-lacks : hasShare s (r .sums) (r .weighted) ≡ false → 18 ≡ codeCheck s r
-      unfolding _then_
-      share-lacks e = sym (last-two true false (not-false _ room) e)
-
-      pub may-withdraw : hasShare s (r .sums) (r .weighted) ≡ true → 0 ≡ codeCheck s r
-      unfolding _then_
-      may-withdraw e = sym (last-two true true (not-false _ room) e)
-
--- what a withdrawal of a study and a share whose checks pass rests on
-pub record Withdrawable (s : Study) (r : ClaimShare) : Type 0 where
-  pub number : r .refused ≡ 0
-  pub some : 0 < s .taken
-  pub sums : within 200 (s .sums) ≡ true
-  pub weighted : within 200 (s .weighted) ≡ true
-  pub covered : covers (s .sums) (r .sums) ≡ true
-  pub weighted-covered : covers (s .weighted) (r .weighted) ≡ true
-
-all-passed : (s : Study) (r : ClaimShare) → codeCheck s r ≡ 0 → Withdrawable s r
-unfolding withdrawRoom hasShare
-all-passed s r e =
-    let p = then-passed (r .refused) _ e in
-    let q = then-passed (check (withdrawRoom s) refuse-full) _ (p .1) in
-    let few = leb (s .taken) 500000 in
-    let room = sumsWithin (s .sums) (s .weighted) in
-    let b = both-within (s .sums) (s .weighted) (and-right few room (check-passed (few && room) 9 (omega tests) (q .0))) in
-    let some = ltb 0 (s .taken) in
-    let c = covers (s .sums) (r .sums) in
-    let d = covers (s .weighted) (r .weighted) in
-    let h = check-passed (some && c && d) 18 (omega tests) (q .1) in
-    let sc = and-left (some && c) d h in
-    record {
-      number = p .0;
-      some = ltb-true 0 (s .taken) (and-left some c sc);
-      sums = within-more (s .sums) (b .0);
-      weighted = b .1;
-      covered = and-right some c sc;
-      weighted-covered = and-right (some && c) d h;
-    }
-
--- the answer, where the share is a claim's
-module _ (s : Study) (c : Claim) (rates : List ℕ) (r : ClaimShare) (is : ShareIs r c (s .window) rates) where
-  abbrev last-checks : Sums → Sums → ℕ
-  last-checks a b = check (withdrawRoom s) refuse-full then check (hasShare s a b) refuse-withdrawal
-
-  -- the paper's checks are the share's number and the last two
-  paper-checks : withdrawCheck s c rates ≡ (r .refused then last-checks (shareOf (s .window) rates c) (weightedShare (s .window) rates c))
-  unfolding withdrawCheck shareNumber canWithdraw hasShare
-  paper-checks =
+  -- the checks are the claim's own and the last two
+  checks-are : withdrawCheckWith kind s c table ≡ (n then lastChecks (s .taken) (s .sums) share)
+  unfolding withdrawCheckWith withdrawRoom canWithdrawWith shareNumber lastChecks
+  checks-are =
       let f = windowCheck (s .window .first .0) (s .window .last .0) in
-      let z = last-checks (shareOf (s .window) rates c) (weightedShare (s .window) rates c) in
+      let z = lastChecks (s .taken) (s .sums) share in
       sym
-      (ap (λ (n : ℕ). n then z) (is .number) ∙ then-assoc f (claimCheck c then rateCheck rates (c .cell)) z
-      ∙ ap (λ (n : ℕ). f then n) (then-assoc (claimCheck c) (rateCheck rates (c .cell)) z))
+      (ap (λ (n : ℕ). n then z) own-number ∙ then-assoc f (claimCheck c then checkOf kind table (c .cell)) z
+      ∙ ap (λ (n : ℕ). f then n) (then-assoc (claimCheck c) (checkOf kind table (c .cell)) z))
 
-  same-check : codeCheck s r ≡ withdrawCheck s c rates
-  same-check =
-      by (eqb (r .refused) 0) (λ _. codeCheck s r ≡ withdrawCheck s c rates)
-      (λ q.
-      let e = eqb-true (r .refused) 0 q in
-      ap₂ (λ (a b : Sums). r .refused then last-checks a b) (is .share e) (is .weighted-share e) ∙ sym paper-checks)
-      (λ q.
-      let h : r .refused ≡ 0 → ⊥ = λ (e : r .refused ≡ 0). omega tests in
-      then-fails (r .refused) _ h ∙ sym (paper-checks ∙ then-fails (r .refused) _ h))
+  pub unfit-answer : (n ≡ 0 → ⊥) → _≡_ {A = Answer} (record { refused = n; study = s }) (withdrawnWith kind s c table)
+  unfolding withdrawnWith
+  unfit-answer h = let e = checks-are ∙ then-fails n _ h in rw (e, ne-eqb n 0 h) refl
 
-  module _ (n : ℕ) (e : n ≡ codeCheck s r) where
-    pub refused-answer : (n ≡ 0 → ⊥) → answer n s ≡ withdrawn s c rates
-    unfolding withdrawn
-    refused-answer h = let k = e ∙ same-check in rw (← k, ne-eqb n 0 h) refl
+  module _ (z : n ≡ 0) where
+    share-is : x ≡ share
+    share-is = q ∙ alone-share kind c (s .window) table (sym own-number ∙ z)
 
-    module _ (z : n ≡ 0) where
-      pub passed : Withdrawable s r
-      passed = all-passed s r (sym e ∙ z)
+    pub small : allAtMost 4294967295 table ≡ true → smallShare x ≡ true
+    small h = ap smallShare share-is ∙ share-small kind c (s .window) table (sym own-number ∙ z) h
 
-      own-number : shareNumber c (s .window) rates ≡ 0
-      own-number = sym (is .number) ∙ passed .number
+    module _ (m : ℕ) (e : m ≡ lastChecks (s .taken) (s .sums) x) where
+      number : withdrawCheckWith kind s c table ≡ m
+      number = checks-are ∙ then-next n _ z ∙ ap (lastChecks (s .taken) (s .sums)) (sym share-is) ∙ sym e
 
-      pub sums-small : shareSmall (r .sums) ≡ true
-      sums-small = ap shareSmall (is .share (passed .number)) ∙ share-small c (s .window) rates own-number
+      pub refused-answer : (m ≡ 0 → ⊥) → _≡_ {A = Answer} (record { refused = m; study = s }) (withdrawnWith kind s c table)
+      unfolding withdrawnWith
+      refused-answer h = rw (number, ne-eqb m 0 h) refl
 
-      pub weighted-sums-small : shareSmall (r .weighted) ≡ true
-      weighted-sums-small = ap shareSmall (is .weighted-share (passed .number)) ∙ weighted-small c (s .window) rates own-number
+      module _ (y : m ≡ 0) where
+        pub passed : Withdrawable (s .taken) (s .sums)
+        passed = last-passed (s .taken) (s .sums) x (sym e ∙ y)
 
-      pub withdrawn-answer : (a b : Sums) → a ≡ minus (s .sums) (r .sums) → b ≡ minus (s .weighted) (r .weighted)
-          → answer 0 (lentStudy (s .window) (s .taken - 1) a b) ≡ withdrawn s c rates
-      unfolding withdrawn withoutClaim
-      withdrawn-answer a b p q =
-          let k : withdrawCheck s c rates ≡ 0 = sym (e ∙ same-check) ∙ z in
-          let x = p ∙ ap (minus (s .sums)) (is .share (passed .number)) in
-          let y = q ∙ ap (minus (s .weighted)) (is .weighted-share (passed .number)) in
-          rw k (ap₂ (λ (x y : Sums). answer 0 (lentStudy (s .window) (s .taken - 1) x y)) x y)
+        pub withdrawn-answer : (a : List ℤ) → a ≡ minus (s .sums) x
+            → _≡_ {A = Answer} (record { refused = 0; study = lentStudy (s .window) (s .taken - 1) a }) (withdrawnWith kind s c table)
+        unfolding withdrawnWith
+        withdrawn-answer a h =
+            let k : withdrawCheckWith kind s c table ≡ 0 = number ∙ y in
+            let t = h ∙ ap (minus (s .sums)) share-is in
+            rw k (λ i. record { refused = 0; study = lentStudy (s .window) (s .taken - 1) (t i) })

@@ -6,20 +6,20 @@ use mathlib.Core.Path.{_≡_}
 use mathlib.Core.Bool.{Bool, true, false, _&&_}
 use mathlib.Core.List.{List, [], _∷_}
 use mathlib.Core.Logic.{_⊎_}
-use lib.ListN.{length, getD, set}
+use lib.ListN.{length, getD}
 use lib.Dec.{ltb, eqb}
+use lib.IntN.{ℤ, pos, _-ℤ_, _*ℤ_}
 use Rattle.basics.specs.Pick.{pick}
-use Rattle.basics.specs.Checks.{_then_}
+use Rattle.basics.specs.Limits.{most-claims}
 use Rattle.calendar.specs.declared.Date.{Date}
 use Rattle.claim_months.specs.declared.Claim.{Claim}
 use Rattle.claim_months.specs.declared.Window.{Window}
-use Rattle.claim_months.specs.Claim.{claimCheck, weight}
+use Rattle.claim_months.specs.Claim.{weight}
 use Rattle.claim_months.specs.Exposure.{closedIn}
 use Rattle.claim_months.specs.Windows.{between, Parts, total, EveryPart, NoPart, ExactlyOnePart}
-use Rattle.rates.specs.Rates.{rateCheck}
 use Rattle.study.specs.declared.Study.{Study}
-use Rattle.study.specs.Sums.{plus}
-use Rattle.study.specs.Study.{studyOf, opened, added}
+use Rattle.study.specs.Sums.{ClosingPlace, plus}
+use Rattle.study.specs.Study.{ownRefusal, accepted, studyOf, opened, added}
 
 -- One study of the list: the two dates that it is opened with, and the order in which it gets the places of the list
 pub record StudyRun : Type 0 where
@@ -72,30 +72,25 @@ givenAt rates claims i r = givenTo rates claims i (opened (r .first) (r .last) .
 unfoldable pub answerAt : List ℕ → List Claim → ℕ → StudyRun → ℕ
 answerAt rates claims i r = added (givenAt rates claims i r) (nthClaim claims i) rates .refused
 
--- the claim at place i is counted as closed in a run: its addition there makes one closing count of one group higher by one, and no other, and
--- the same place of the weighted set higher by its weight, and no other
+-- by how much a run's addition of place i changes the sum at place k
+abbrev pub change : List ℕ → List Claim → ℕ → StudyRun → ℕ → ℤ
+change rates claims i r k =
+    let given = givenAt rates claims i r in
+    getD (added given (nthClaim claims i) rates .study .sums) k (pos 0) -ℤ getD (given .sums) k (pos 0)
+
+-- the claim at place i is counted as closed in a run: its addition there makes one closing count of one group higher by one, and no other
 abbrev pub CountedClosed : List ℕ → List Claim → ℕ → StudyRun → Type 0
 CountedClosed rates claims i r =
-    (k : ℕ) × (k < 25)
-    × (added (givenAt rates claims i r) (nthClaim claims i) rates .study .sums .closings
-    ≡ set (givenAt rates claims i r .sums .closings) k (getD (givenAt rates claims i r .sums .closings) k 0 + 1))
-    × (added (givenAt rates claims i r) (nthClaim claims i) rates .study .weighted .closings
-    ≡ set (givenAt rates claims i r .weighted .closings) k (getD (givenAt rates claims i r .weighted .closings) k 0 + weight (nthClaim claims i)))
+    (k₀ : ℕ) × ClosingPlace k₀ × ((k : ℕ) → ClosingPlace k → change rates claims i r k ≡ pick (eqb k k₀) (pos 1) (pos 0))
 
--- its addition there leaves all closing counts, and the weighted ones, as they were
+-- its addition there leaves all closing counts as they were
 abbrev pub LeavesClosings : List ℕ → List Claim → ℕ → StudyRun → Type 0
-LeavesClosings rates claims i r =
-    (added (givenAt rates claims i r) (nthClaim claims i) rates .study .sums .closings ≡ givenAt rates claims i r .sums .closings)
-    × (added (givenAt rates claims i r) (nthClaim claims i) rates .study .weighted .closings ≡ givenAt rates claims i r .weighted .closings)
+LeavesClosings rates claims i r = (k : ℕ) → ClosingPlace k → change rates claims i r k ≡ pos 0
 
--- the number of the first of the checks 2 to 8 and 16 that a claim fails with the rates, or 0: a claim with 0 is accepted
-unfoldable pub ownRefusal : List ℕ → Claim → ℕ
-ownRefusal rates c = claimCheck c then rateCheck rates (c .cell)
-
--- the accepted claims of a list
-unfoldable pub accepted : List ℕ → List Claim → List Claim
-accepted rates [] = []
-accepted rates (c ∷ cs) = pick (eqb (ownRefusal rates c) 0) (c ∷ accepted rates cs) (accepted rates cs)
+-- its addition there changes each closing sum of the weighted set by its weight times the change of the count at the same place
+abbrev pub WeighsClosings : List ℕ → List Claim → ℕ → StudyRun → Type 0
+WeighsClosings rates claims i r =
+    (k : ℕ) → ClosingPlace k → change rates claims i r (k + 40) ≡ pos (weight (nthClaim claims i)) *ℤ change rates claims i r k
 
 -- accepted, and closed in the window of a run
 unfoldable pub closesIn : List ℕ → Claim → StudyRun → Bool
@@ -103,10 +98,9 @@ closesIn rates c r = eqb (ownRefusal rates c) 0 && closedIn c (runWindow r .firs
 
 -- What demand 3 says of rates, a list of claims, the run over the undivided window, and the runs over its parts
 pub record AddsUp (rates : List ℕ) (claims : List Claim) (whole part : StudyRun) (parts : List StudyRun) : Type 0 where
-  -- 1. The sums of the parts' last studies total exactly those of the undivided window's: in every group the exposure, the closing counts
-  -- under each category, the expected recoveries and the expected deaths; and so do the weighted sums
+  -- 1. The sums of the parts' last studies total exactly those of the undivided window's, in both sets: in every group the exposure, the closing
+  -- counts under each category, the expected recoveries and the expected deaths
   pub sums : total plus (λ r. lastStudy rates claims r .sums) part parts ≡ lastStudy rates claims whole .sums
-  pub weighted : total plus (λ r. lastStudy rates claims r .weighted) part parts ≡ lastStudy rates claims whole .weighted
   -- 2. Every place gets the same answer in each run: the number that its claim and the rates have by themselves
   pub answer : (i : ℕ) → i < length claims → answerAt rates claims i whole ≡ ownRefusal rates (nthClaim claims i)
   pub same-answer : (i : ℕ) → i < length claims → EveryPart (λ r. answerAt rates claims i r ≡ answerAt rates claims i whole) part parts
@@ -118,6 +112,8 @@ pub record AddsUp (rates : List ℕ) (claims : List Claim) (whole part : StudyRu
   pub not-counted : (i : ℕ) → i < length claims → closesIn rates (nthClaim claims i) whole ≡ false
       → LeavesClosings rates claims i whole × EveryPart (LeavesClosings rates claims i) part parts
       × (CountedClosed rates claims i whole → ⊥) × NoPart (CountedClosed rates claims i) part parts
+  -- and in the weighted set every claim's closing counts with its weight, in each study
+  pub weighted-closings : (i : ℕ) → i < length claims → WeighsClosings rates claims i whole × EveryPart (WeighsClosings rates claims i) part parts
   -- 4. Each last study is the study of its window and the accepted claims: claims taken, closing counts and sums as the Study rules say
   pub whole-study : lastStudy rates claims whole ≡ studyOf (runWindow whole) rates (accepted rates claims)
   pub part-studies : EveryPart (λ r. lastStudy rates claims r ≡ studyOf (runWindow r) rates (accepted rates claims)) part parts
@@ -125,7 +121,7 @@ pub record AddsUp (rates : List ℕ) (claims : List Claim) (whole part : StudyRu
 -- Demand 3: it holds of everything that the engine can be given
 abbrev pub Demand3 : Type 0
 Demand3 =
-    (rates : List ℕ) (claims : List Claim) (whole part : StudyRun) (parts : List StudyRun) → length claims ≤ 500000
+    (rates : List ℕ) (claims : List Claim) (whole part : StudyRun) (parts : List StudyRun) → length claims ≤ most-claims
     → Opens (length claims) whole
     → Parts (Opens (length claims)) runWindow (runWindow whole .first .0) (runWindow whole .last .0) part parts
     → AddsUp rates claims whole part parts

@@ -6,11 +6,11 @@ use mathlib.Core.List.{List, [], _∷_, _++_}
 use lib.ListN.{length}
 use lib.Dec.{leb, eqb}
 use Rattle.basics.specs.Pick.{pick}
+use Rattle.basics.specs.Limits.{most-claims}
 use Rattle.basics.specs.Checks.{check, _then_, refuse-full, refuse-other-window}
 use Rattle.claim_months.specs.declared.Claim.{Claim}
 use Rattle.claim_months.specs.declared.Window.{Window}
 use Rattle.claim_months.specs.Windows.{windowCheck, Parts, total}
-use Rattle.study.specs.declared.Sums.{Sums}
 use Rattle.study.specs.declared.Study.{Study}
 use Rattle.study.specs.declared.Answer.{Answer}
 use Rattle.study.specs.Sums.{plus, within}
@@ -25,11 +25,8 @@ unfoldable pub sameWindow : Window → Window → Bool
 sameWindow v w = eqb (v .first .0) (w .first .0) && eqb (v .last .0) (w .last .0)
 
 -- 9: together over 500,000 claims, or a sum or count outside the table's bounds in either or in the joined study
-unfoldable pub joinedWithin : ℕ → Sums → Sums → Bool
-joinedWithin n a b = within n a && within n b && within n (plus a b)
-
 unfoldable pub joinRoom : Study → Study → Bool
-joinRoom s t = leb (s .taken + t .taken) 500000 && joinedWithin 1 (s .sums) (t .sums) && joinedWithin 200 (s .weighted) (t .weighted)
+joinRoom s t = leb (s .taken + t .taken) most-claims && within (s .sums) && within (t .sums) && within (plus (s .sums) (t .sums))
 
 -- the number of the first check that fails, or 0: a bad window in either, unequal windows, full
 unfoldable pub joinCheck : Study → Study → ℕ
@@ -40,8 +37,7 @@ joinCheck s t =
 
 -- both studies together: claims taken and every sum added group by group
 unfoldable pub together : Study → Study → Study
-together s t =
-    record { window = s .window; taken = s .taken + t .taken; sums = plus (s .sums) (t .sums); weighted = plus (s .weighted) (t .weighted) }
+together s t = record { window = s .window; taken = s .taken + t .taken; sums = plus (s .sums) (t .sums) }
 
 -- Joining takes two studies. A refusal gives its number and the first study
 unfoldable pub joined : Study → Study → Answer
@@ -78,20 +74,19 @@ Poolable rates p = Accepted (p .dates) × Allowed rates (p .one) × Allowed rate
 
 -- the same, with at most 500,000 claims together, and the claims of a whole window's pool up to order
 abbrev pub PoolsClaims : List ℕ → List Claim → Pool → Type 0
-PoolsClaims rates cs p = Poolable rates p × (length (poolClaims rates p) ≤ 500000) × SameClaims (poolClaims rates p) cs
+PoolsClaims rates cs p = Poolable rates p × (length (poolClaims rates p) ≤ most-claims) × SameClaims (poolClaims rates p) cs
 
 -- Request No. 3, of built studies of one accepted window and one table. `proofs/Pooling.antt` proves it
 pub record Pooling : Type 0 where
   -- the answer is 0 exactly if together they hold at most 500,000 claims, else 9
   pub answer : (rates : List ℕ) (p : Pool) → Poolable rates p
-      → poolAnswer rates p .refused ≡ pick (leb (length (poolClaims rates p)) 500000) 0 refuse-full
+      → poolAnswer rates p .refused ≡ pick (leb (length (poolClaims rates p)) most-claims) 0 refuse-full
   -- then the study is that of both lists of claims remaining, one after the other, and the one that adding these lists to a fresh study returns
-  pub study : (rates : List ℕ) (p : Pool) → Poolable rates p → length (poolClaims rates p) ≤ 500000
+  pub study : (rates : List ℕ) (p : Pool) → Poolable rates p → length (poolClaims rates p) ≤ most-claims
       → poolAnswer rates p .study ≡ studyOf (poolWindow p) rates (poolClaims rates p)
-  pub added-study : (rates : List ℕ) (p : Pool) → Poolable rates p → length (poolClaims rates p) ≤ 500000
+  pub added-study : (rates : List ℕ) (p : Pool) → Poolable rates p → length (poolClaims rates p) ≤ most-claims
       → poolAnswer rates p .study ≡ addedAll rates (opened (p .dates .first) (p .dates .last) .study) (poolClaims rates p)
   -- where a whole window and its consecutive parts are pooled likewise, the pooled parts total the pooled whole in both sets
   pub parts-total : (rates : List ℕ) (whole part : Pool) (parts : List Pool) → PoolsClaims rates (poolClaims rates whole) whole
       → Parts (PoolsClaims rates (poolClaims rates whole)) poolWindow (poolWindow whole .first .0) (poolWindow whole .last .0) part parts
-      → (total plus (λ p. poolAnswer rates p .study .sums) part parts ≡ poolAnswer rates whole .study .sums)
-      × (total plus (λ p. poolAnswer rates p .study .weighted) part parts ≡ poolAnswer rates whole .study .weighted)
+      → total plus (λ p. poolAnswer rates p .study .sums) part parts ≡ poolAnswer rates whole .study .sums

@@ -6,6 +6,7 @@ pub mod Weighting
 pub mod DefinitionChange
 pub mod Demand3
 pub mod Withdrawing
+pub mod PreparedWithdrawing
 pub mod Moves
 pub mod Joining
 pub mod PoolTrees

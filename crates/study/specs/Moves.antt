@@ -7,6 +7,7 @@ use mathlib.Core.List.{List, [], _∷_}
 use lib.ListN.{length}
 use lib.Dec.{ltb, eqb}
 use Rattle.basics.specs.Pick.{pick}
+use Rattle.basics.specs.Limits.{most-claims}
 use Rattle.basics.specs.Checks.{check, _then_, refuse-full}
 use Rattle.calendar.specs.declared.Date.{Date}
 use Rattle.claim_months.specs.declared.Claim.{Claim}
@@ -15,8 +16,7 @@ use Rattle.claim_months.specs.Windows.{between, Parts, total, EveryPart}
 use Rattle.study.specs.declared.Study.{Study}
 use Rattle.study.specs.declared.Answer.{Answer}
 use Rattle.study.specs.Sums.{plus}
-use Rattle.study.specs.Study.{studyOf, opened, added}
-use Rattle.study.specs.Demand3.{ownRefusal}
+use Rattle.study.specs.Study.{studyOf, opened, added, ownRefusal}
 use Rattle.study.specs.Withdrawing.{withdrawn}
 
 -- a move: adding a claim, or withdrawing it
@@ -50,7 +50,7 @@ remainingAfter rates cs [] = cs
 remainingAfter rates cs (m ∷ ms) =
     remainingAfter rates
     (pick (m .withdraws) (without (m .claim) cs)
-    (pick (eqb (ownRefusal rates (m .claim)) 0 && ltb (length cs) 500000) (m .claim ∷ cs) cs))
+    (pick (eqb (ownRefusal rates (m .claim)) 0 && ltb (length cs) most-claims) (m .claim ∷ cs) cs))
     ms
 
 abbrev pub remaining : List ℕ → List Move → List Claim
@@ -81,17 +81,8 @@ moveAnswers rates s (m ∷ ms) = moved rates s m .refused ∷ moveAnswers rates 
 unfoldable pub dueAnswers : List ℕ → List Claim → List Move → List ℕ
 dueAnswers rates cs [] = []
 dueAnswers rates cs (m ∷ ms) =
-    pick (m .withdraws) 0 (ownRefusal rates (m .claim) then check (ltb (length cs) 500000) refuse-full)
+    pick (m .withdraws) 0 (ownRefusal rates (m .claim) then check (ltb (length cs) most-claims) refuse-full)
     ∷ dueAnswers rates (remainingAfter rates cs (m ∷ [])) ms
-
--- a built study: what a list of allowed moves makes of a fresh study of an accepted window
-pub record Built (rates : List ℕ) (s : Study) : Type 0 where
-  pub first : Date
-  pub last : Date
-  pub moves : List Move
-  pub accepted : opened first last .refused ≡ 0
-  pub allowed : Allowed rates moves
-  pub made : movedAll rates (opened first last .study) moves ≡ s
 
 -- Two dates that opening accepts
 pub record Dates : Type 0 where
@@ -123,5 +114,4 @@ pub record TakenBack : Type 0 where
       → EveryPart (λ d. answersIn rates ms d ≡ answersIn rates ms whole) part parts
   pub parts-total : (rates : List ℕ) (ms : List Move) (whole part : Dates) (parts : List Dates) → Accepted whole → Allowed rates ms
       → Parts Accepted datesOf (datesOf whole .first .0) (datesOf whole .last .0) part parts
-      → (total plus (λ d. movedIn rates ms d .sums) part parts ≡ movedIn rates ms whole .sums)
-      × (total plus (λ d. movedIn rates ms d .weighted) part parts ≡ movedIn rates ms whole .weighted)
+      → total plus (λ d. movedIn rates ms d .sums) part parts ≡ movedIn rates ms whole .sums

@@ -5,6 +5,7 @@ use mathlib.Core.Path.{_≡_}
 use mathlib.Core.List.{List, [], _∷_, _++_}
 use mathlib.Core.Logic.{_⊎_}
 use lib.ListN.{length}
+use Rattle.basics.specs.Limits.{most-claims}
 use Rattle.claim_months.specs.declared.Claim.{Claim}
 use Rattle.study.specs.Study.{studyOf}
 use Rattle.study.specs.Moves.{Move, remaining, Allowed, Dates, datesOf, Accepted}
@@ -28,6 +29,6 @@ Arranged (l ∷ ls) studies =
 
 abbrev pub AnyOrder : Type 0
 AnyOrder =
-    (rates : List ℕ) (d : Dates) (studies : List (List Move)) → Accepted d → AllAllowed rates studies → length (claimsOf rates studies) ≤ 500000
+    (rates : List ℕ) (d : Dates) (studies : List (List Move)) → Accepted d → AllAllowed rates studies → length (claimsOf rates studies) ≤ most-claims
     → (t : PoolTree) → Arranged (leaves t) studies
     → (poolRefusal rates d t ≡ 0) × (pooled rates d t ≡ studyOf (datesOf d) rates (claimsOf rates studies))

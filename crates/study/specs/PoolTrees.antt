@@ -4,6 +4,7 @@ use Prim.Native.Nat.{ℕ, _≤_}
 use mathlib.Core.Path.{_≡_}
 use mathlib.Core.List.{List, [], _∷_, _++_}
 use lib.ListN.{length}
+use Rattle.basics.specs.Limits.{most-claims}
 use Rattle.basics.specs.Checks.{_then_}
 use Rattle.claim_months.specs.declared.Claim.{Claim}
 use Rattle.claim_months.specs.declared.Window.{Window}
@@ -45,7 +46,7 @@ AllowedTree rates (join t u) = AllowedTree rates t × AllowedTree rates u
 
 -- a window that is accepted, and a tree of studies built in it with one table that together hold at most 500,000 claims
 abbrev pub Pools : List ℕ → Dates → PoolTree → Type 0
-Pools rates d t = Accepted d × AllowedTree rates t × (length (treeClaims rates t) ≤ 500000)
+Pools rates d t = Accepted d × AllowedTree rates t × (length (treeClaims rates t) ≤ most-claims)
 
 -- a window with a tree, and that its claims are those of another pool, up to order
 pub record TreeIn : Type 0 where
@@ -79,5 +80,4 @@ pub record AnyGrouping : Type 0 where
   -- pools of the parts, each in its own tree and with the same claims remaining as the whole window's pool, up to order, total that pool
   pub parts-total : (rates : List ℕ) (whole part : TreeIn) (parts : List TreeIn) → Pools rates (whole .dates) (whole .tree)
       → Parts (PoolsSame rates (treeClaims rates (whole .tree))) treeWindow (treeWindow whole .first .0) (treeWindow whole .last .0) part parts
-      → (total plus (λ p. pooledIn rates p .sums) part parts ≡ pooledIn rates whole .sums)
-      × (total plus (λ p. pooledIn rates p .weighted) part parts ≡ pooledIn rates whole .weighted)
+      → total plus (λ p. pooledIn rates p .sums) part parts ≡ pooledIn rates whole .sums

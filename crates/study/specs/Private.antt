@@ -1,89 +1,86 @@
--- What the private functions of this layer answer: a span's share, band by band.
-use Prim.Native.Nat.{ℕ, _+_, _-_, _*_, _/_, _%_}
-use mathlib.Core.Bool.{Bool, _&&_}
-use mathlib.Core.Path.{_≡_}
+-- What the private functions of this layer answer: sums within bounds, and a span's share, band by band.
+use Prim.Native.Nat.{ℕ, _+_, _*_}
+use mathlib.Core.Bool.{Bool, true, _&&_}
 use mathlib.Core.List.{List}
-use lib.Dec.{ltb, eqb}
 use lib.ListN.{getD}
+use lib.Dec.{leb, ltb, eqb}
 use lib.IntN.{ℤ, pos, _*ℤ_}
 use Rattle.basics.specs.Pick.{pick}
-use Rattle.basics.specs.Checks.{check, _then_, refuse-full}
-use Rattle.basics.specs.Tables.{table, allWithin, allAtMost}
+use Rattle.basics.specs.Limits.{most-claims}
+use Rattle.basics.specs.Checks.{check, _then_, refuse-full, refuse-withdrawal}
+use Rattle.basics.specs.Tables.{table, everyPlace, allWithin}
 use Rattle.claim_months.specs.declared.Claim.{Claim}
 use Rattle.claim_months.specs.declared.Span.{Span}
 use Rattle.claim_months.specs.declared.Window.{Window}
 use Rattle.claim_months.specs.Claim.{claimCheck}
 use Rattle.claim_months.specs.Windows.{windowCheck}
-use Rattle.rates.specs.Rates.{rateCheck}
 use Rattle.claim_months.specs.Span.{spanWeighted, spanClosing}
 use Rattle.rates.specs.declared.Kind.{Kind}
 use Rattle.rates.specs.Prepared.{checkOf, recoveryOf, deathOf}
-use Rattle.study.specs.declared.ClaimShare.{ClaimShare}
-use Rattle.study.specs.declared.Study.{Study}
-use Rattle.study.specs.declared.Sums.{Sums}
-use Rattle.study.specs.Sums.{times}
-use Rattle.study.specs.Study.{inGroup, groupWeight, shareOf, weightedShare}
+use Rattle.study.specs.declared.sums.Bounds.{Bounds}
+use Rattle.study.specs.Sums.{groupAt, columnAt, isCount, timesAt, inBounds, within}
+use Rattle.study.specs.Study.{inGroup, groupWeight}
 use Rattle.study.specs.PreparedAdding.{guardedPlus}
 use Rattle.study.specs.Withdrawing.{covers}
 
--- per group, the first n months of a span, weighted by their durations
-unfoldable pub monthSums : (ℕ → ℤ) → Span → ℕ → List ℤ
-monthSums w sp n = table 5 (λ k. spanWeighted (groupWeight (k + 1) w) sp n)
+-- bounds by column
+unfoldable pub boundIn : Bounds → ℕ → ℕ
+boundIn b column = pick (isCount column) (b .count) (pick (eqb column 0) (b .thirtieths) (b .expected))
 
--- n times some sums per group, and n times some counts
-unfoldable pub timesSums : ℕ → List ℤ → List ℤ
-timesSums n xs = table 5 (λ k. pos n *ℤ getD xs k (pos 0))
+-- the eight numbers of a group from a place on within n times some bounds
+unfoldable pub groupInBounds : ℕ → Bounds → List ℤ → ℕ → Bool
+groupInBounds n b s at = everyPlace 8 (λ x. inBounds (n * boundIn b x) x (getD s (at + x) (pos 0)))
 
-unfoldable pub timesCounts : ℕ → List ℕ → List ℕ
-timesCounts n xs = table 25 (λ k. n * getD xs k 0)
+-- its closing counts among them
+unfoldable pub countsInBounds : ℕ → List ℤ → ℕ → Bool
+countsInBounds n s at = everyPlace 8 (λ x. pick (isCount x) (inBounds n x (getD s (at + x) (pos 0))) true)
 
--- the closing counts of a span: its closing month counts one, under its category
-unfoldable pub spanClosings : Span → List ℕ
-spanClosings sp = table 25 (λ k. spanClosing (λ d y. inGroup (k / 5 + 1) d * pick (eqb y (k % 5 + 1)) 1 0) sp)
+-- what a month's thirtieths are multiplied by in a column: by one, by its recovery rate, by its death rate
+unfoldable pub columnRate : (ℕ → ℤ) → (ℕ → ℤ) → ℕ → ℕ → ℤ
+columnRate recovery death column = pick (eqb column 0) (λ d. pos 1) (pick (eqb column 6) recovery death)
+
+-- the figure of a column of group g over the first n months of a span, and over its closing: its closing month counts one, under its category
+unfoldable pub monthsFigure : (ℕ → ℤ) → (ℕ → ℤ) → Span → ℕ → ℕ → ℕ → ℤ
+monthsFigure recovery death sp n g column =
+    pick (isCount column) (pos 0) (spanWeighted (groupWeight g (columnRate recovery death column)) sp n)
+
+unfoldable pub closingFigure : Span → ℕ → ℕ → ℤ
+closingFigure sp g column = pick (isCount column) (pos (spanClosing (λ d y. inGroup g d * pick (eqb y column) 1 0) sp)) (pos 0)
+
+-- a share of a claim with a weight, by the figures of groups and columns
+unfoldable pub shareBy : ℕ → (ℕ → ℕ → ℤ) → List ℤ
+shareBy n figure = table 80 (λ k. pos (timesAt n k) *ℤ figure (groupAt k) (columnAt k))
 
 -- the share of a claim whose month records have a span
-unfoldable pub spanShare : Kind → List ℕ → ℕ → Span → Sums
-spanShare kind rates cell sp =
-    record {
-      thirtieths = monthSums (λ d. pos 1) sp (sp .months);
-      closings = spanClosings sp;
-      recoveries = monthSums (recoveryOf kind rates cell) sp (sp .months);
-      deaths = monthSums (deathOf kind rates cell) sp (sp .months);
-    }
+unfoldable pub spanFigure : (ℕ → ℤ) → (ℕ → ℤ) → Span → ℕ → ℕ → ℤ
+spanFigure recovery death sp g column =
+    pick (isCount column) (closingFigure sp g column) (monthsFigure recovery death sp (sp .months) g column)
+
+unfoldable pub spanShare : Kind → List ℕ → ℕ → ℕ → Span → List ℤ
+spanShare kind rates cell n sp = shareBy n (spanFigure (recoveryOf kind rates cell) (deathOf kind rates cell) sp)
+
+-- one figure of one group and column, and no other
+unfoldable pub oneFigure : ℕ → ℕ → ℤ → ℕ → ℕ → ℤ
+oneFigure g₀ column₀ x g column = pick (eqb g g₀ && eqb column column₀) x (pos 0)
 
 -- adding a sound claim's span to sums, told whether they are within their bounds: the number of the first of the checks 6 to 9 that fails, or 0,
 -- and the sums afterwards
 unfoldable pub spanNumber : ℕ → Bool → Kind → List ℕ → ℕ → ℕ
-spanNumber taken room kind rates cell = checkOf kind rates cell then check (ltb taken 500000 && room) refuse-full
+spanNumber taken room kind rates cell = checkOf kind rates cell then check (ltb taken most-claims && room) refuse-full
 
-unfoldable pub spanSums : ℕ → Bool → Sums → Kind → List ℕ → ℕ → Span → Sums
-spanSums taken room s kind rates cell sp =
-    pick (eqb (spanNumber taken room kind rates cell) 0) (guardedPlus 1 s (spanShare kind rates cell sp)) s
+unfoldable pub spanSums : ℕ → Bool → List ℤ → Kind → List ℕ → ℕ → Span → ℕ → List ℤ
+spanSums taken room s kind rates cell sp n =
+    pick (eqb (spanNumber taken room kind rates cell) 0) (guardedPlus s (spanShare kind rates cell n sp)) s
 
--- and the weighted ones
-unfoldable pub spanWeightedSums : ℕ → Bool → Sums → Kind → List ℕ → ℕ → Span → ℕ → Sums
-spanWeightedSums taken room s kind rates cell sp weight =
-    pick (eqb (spanNumber taken room kind rates cell) 0) (guardedPlus 200 s (times weight (spanShare kind rates cell sp))) s
-
--- whether sums are within bounds, one for thirtieths, one for expected sums and one for counts
-unfoldable pub bounded : ℕ → ℕ → ℕ → Sums → Bool
-bounded exposure expected count s =
-    allWithin exposure (s .thirtieths) && allWithin expected (s .recoveries) && allWithin expected (s .deaths) && allAtMost count (s .closings)
-
--- a claim's share of both sets, with the number of the first of the checks 1 to 8 and 16 that fails, or 0; no share beside a refusal
-unfoldable pub shareNumber : Claim → Window → List ℕ → ℕ
-shareNumber c w rates = windowCheck (w .first .0) (w .last .0) then claimCheck c then rateCheck rates (c .cell)
-
-pub record ShareIs (r : ClaimShare) (c : Claim) (w : Window) (rates : List ℕ) : Type 0 where
-  pub number : r .refused ≡ shareNumber c w rates
-  pub share : r .refused ≡ 0 → r .sums ≡ shareOf w rates c
-  pub weighted-share : r .refused ≡ 0 → r .weighted ≡ weightedShare w rates c
-
--- a study with claims has the closings of a share in both sets
-unfoldable pub hasShare : Study → Sums → Sums → Bool
-hasShare s share weighted = ltb 0 (s .taken) && covers (s .sums) share && covers (s .weighted) weighted
+-- the number of the first of the checks 1 to 8 and 16 that a claim fails in a window with a table, or 0
+unfoldable pub shareNumber : Kind → Claim → Window → List ℕ → ℕ
+shareNumber kind c w table = windowCheck (w .first .0) (w .last .0) then claimCheck c then checkOf kind table (c .cell)
 
 -- a share's numbers are small beside the bounds of 64 bits
-unfoldable pub shareSmall : Sums → Bool
-shareSmall s =
-    allWithin 1000000000000000000 (s .thirtieths) && allWithin 1000000000000000000 (s .recoveries) && allWithin 1000000000000000000 (s .deaths)
+unfoldable pub smallShare : List ℤ → Bool
+smallShare = allWithin 1000000000000000000
+
+-- the checks 9 and 18 of a withdrawal, of the claims taken, the sums and the claim's share
+unfoldable pub lastChecks : ℕ → List ℤ → List ℤ → ℕ
+lastChecks taken s share =
+    check (leb taken most-claims && within s) refuse-full then check (ltb 0 taken && covers s share) refuse-withdrawal

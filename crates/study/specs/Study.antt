@@ -6,6 +6,8 @@ use lib.ListN.{length}
 use lib.Dec.{ltb, eqb}
 use lib.IntN.{ℤ, pos}
 use Rattle.basics.specs.Pick.{pick}
+use Rattle.basics.specs.Limits.{most-claims}
+use Rattle.basics.specs.Tables.{table}
 use Rattle.basics.specs.Checks.{check, _then_, refuse-full}
 use Rattle.calendar.specs.declared.Date.{Date}
 use Rattle.claim_months.specs.declared.Claim.{Claim}
@@ -16,10 +18,9 @@ use Rattle.claim_months.specs.Claim.{claimCheck, weight}
 use Rattle.claim_months.specs.Exposure.{MonthRecord, monthRecords, weighted, closings}
 use Rattle.claim_months.specs.Windows.{windowCheck, windowIn}
 use Rattle.rates.specs.Rates.{recoveryRate, deathRate, rateCheck, groupOf}
-use Rattle.study.specs.declared.Sums.{Sums}
 use Rattle.study.specs.declared.Study.{Study}
 use Rattle.study.specs.declared.Answer.{Answer}
-use Rattle.study.specs.Sums.{perGroup, perClosing, none, plus, times, within}
+use Rattle.study.specs.Sums.{groupAt, columnAt, isCount, none, plus, times, within}
 
 -- 1 for a duration in group g, 0 for any other
 unfoldable pub inGroup : ℕ → ℕ → ℕ
@@ -41,43 +42,44 @@ closingCount g x rs = closings (λ d y. inGroup g d * pick (eqb y x) 1 0) rs
 unfoldable pub expected : (ℕ → ℤ) → ℕ → List MonthRecord → ℤ
 expected rate g rs = weighted (groupWeight g rate) rs
 
--- the sums over some month records, with the rates of recovery and of death at each duration
-unfoldable pub recordSums : (ℕ → ℤ) → (ℕ → ℤ) → List MonthRecord → Sums
-recordSums recovery death rs =
-    record {
-      thirtieths = perGroup (λ g. exposure g rs);
-      closings = perClosing (λ g x. closingCount g x rs);
-      recoveries = perGroup (λ g. expected recovery g rs);
-      deaths = perGroup (λ g. expected death g rs);
-    }
+-- the figure of a column of group g: thirtieths, the closing count under the column's category, expected recoveries, expected deaths
+unfoldable pub figure : (ℕ → ℤ) → (ℕ → ℤ) → ℕ → ℕ → List MonthRecord → ℤ
+figure recovery death g column rs =
+    pick (isCount column) (pos (closingCount g column rs))
+    (pick (eqb column 0) (exposure g rs) (pick (eqb column 6) (expected recovery g rs) (expected death g rs)))
 
--- a claim's share of a study: the sums over its month records in the window, with the rates of its cell
-unfoldable pub shareOf : Window → List ℕ → Claim → Sums
+-- the sums over some month records, with the rates of recovery and of death at each duration, of a claim with a weight
+unfoldable pub recordSums : (ℕ → ℤ) → (ℕ → ℤ) → ℕ → List MonthRecord → List ℤ
+recordSums recovery death n rs = times n (table 80 (λ k. figure recovery death (groupAt k) (columnAt k) rs))
+
+-- a claim's share of a study: the sums over its month records in the window, with the rates of its cell; in the weighted set its share is
+-- multiplied by its benefit (document 02, No. 7)
+unfoldable pub shareOf : Window → List ℕ → Claim → List ℤ
 shareOf w rates c =
-    recordSums (λ d. pos (recoveryRate rates (c .cell) d)) (λ d. pos (deathRate rates (c .cell) d)) (monthRecords c (w .first .0) (w .last .0))
-
--- its share of the weighted set: its share multiplied by its benefit (document 02, No. 7)
-unfoldable pub weightedShare : Window → List ℕ → Claim → Sums
-weightedShare w rates c = times (weight c) (shareOf w rates c)
+    recordSums (λ d. pos (recoveryRate rates (c .cell) d)) (λ d. pos (deathRate rates (c .cell) d)) (weight c)
+    (monthRecords c (w .first .0) (w .last .0))
 
 -- the sum over claims
 unfoldable pub sumOver : {A : Type 0} → (A → A → A) → A → (Claim → A) → List Claim → A
 sumOver add zero f [] = zero
 sumOver add zero f (c ∷ cs) = add (f c) (sumOver add zero f cs)
 
+-- the number of the first of the checks 2 to 8 and 16 that a claim fails with the rates, or 0: a claim with 0 is accepted
+unfoldable pub ownRefusal : List ℕ → Claim → ℕ
+ownRefusal rates c = claimCheck c then rateCheck rates (c .cell)
+
+-- the accepted claims of a list
+unfoldable pub accepted : List ℕ → List Claim → List Claim
+accepted rates [] = []
+accepted rates (c ∷ cs) = pick (eqb (ownRefusal rates c) 0) (c ∷ accepted rates cs) (accepted rates cs)
+
 -- The study of a window and a list of accepted claims
 unfoldable pub studyOf : Window → List ℕ → List Claim → Study
-studyOf w rates claims =
-    record {
-      window = w;
-      taken = length claims;
-      sums = sumOver plus none (shareOf w rates) claims;
-      weighted = sumOver plus none (weightedShare w rates) claims;
-    }
+studyOf w rates claims = record { window = w; taken = length claims; sums = sumOver plus none (shareOf w rates) claims }
 
--- a study with no claims taken and zero sums in both sets
+-- a study with no claims taken and zero sums
 unfoldable pub fresh : Window → Study
-fresh w = record { window = w; taken = 0; sums = none; weighted = none }
+fresh w = record { window = w; taken = 0; sums = none }
 
 -- the window 1950-01-01 alone
 abbrev pub firstDayAlone : Window
@@ -91,13 +93,9 @@ openedWith (Refused n) = record { refused = n; study = fresh firstDayAlone }
 unfoldable pub opened : Date → Date → Answer
 opened b e = openedWith (windowIn b e)
 
--- 9, full: 500,000 claims or more taken, or a sum handed in beyond ±2.7 × 10¹⁰ thirtieths, ±2.7 × 10¹⁶ expected, or a count over 500,000;
--- the bounds of the weighted set are 200 times those
-unfoldable pub sumsWithin : Sums → Sums → Bool
-sumsWithin sums weighted = within 1 sums && within 200 weighted
-
+-- 9, full: 500,000 claims or more taken, or a sum or count handed in outside its bounds
 unfoldable pub hasRoom : Study → Bool
-hasRoom s = ltb (s .taken) 500000 && sumsWithin (s .sums) (s .weighted)
+hasRoom s = ltb (s .taken) most-claims && within (s .sums)
 
 unfoldable pub roomCheck : Study → ℕ
 roomCheck s = check (hasRoom s) refuse-full
@@ -110,15 +108,9 @@ addCheck s c rates =
     then rateCheck rates (c .cell)
     then roomCheck s
 
--- a study with one accepted claim more: counted as taken, and the claim's share added to the sums of both sets
+-- a study with one accepted claim more: counted as taken, and the claim's share added to the sums
 unfoldable pub withClaim : Study → Claim → List ℕ → Study
-withClaim s c rates =
-    record {
-      window = s .window;
-      taken = s .taken + 1;
-      sums = plus (s .sums) (shareOf (s .window) rates c);
-      weighted = plus (s .weighted) (weightedShare (s .window) rates c);
-    }
+withClaim s c rates = record { window = s .window; taken = s .taken + 1; sums = plus (s .sums) (shareOf (s .window) rates c) }
 
 -- Adding takes study, claim and rates. A refusal gives its number and the study as given
 unfoldable pub added : Study → Claim → List ℕ → Answer

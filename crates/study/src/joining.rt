@@ -1,16 +1,18 @@
 // Joining two studies of one window (document 02, No. 3).
 ghost use mathlib.Core.Path.{_≡_};
 ghost use mathlib.Core.Bool.{true};
-ghost use Prim.Native.Nat.{_+_, _≤_};
+ghost use Prim.Native.Nat.{_≤_};
+ghost use denote.Ref.{now};
 ghost use lib.Dec.{leb};
 ghost use lib.IntN.{natAbs, _+ℤ_};
-ghost use Rattle.basics.specs.Tables.{allWithin, allAtMost};
-ghost use Rattle.study.specs.Sums.{signedEach, countEach, plus, within};
-ghost use Rattle.study.specs.Joining.{joinedWithin, joinRoom, joinCheck, joined};
+ghost use Rattle.study.specs.Sums.{plus, within};
+ghost use Rattle.study.specs.Joining.{joinRoom, joinCheck, joined};
+ghost use Rattle.study.specs.PreparedAdding.{lentStudy};
 use crate::Answer;
 use crate::Study;
-use crate::Sums;
-use crate::room::are_bounded;
+use crate::sums::bound_at;
+use crate::sums::has_room;
+use basics::limits::MOST_CLAIMS;
 use basics::refusal;
 use claim_months::windows::is_sound;
 
@@ -28,163 +30,53 @@ fn sum_within(a: i64, b: i64, bound: u64) -> bool
     a <= limit - b
 }
 
-// Whether the sums of two lists' numbers, place by place, lie from −bound to bound.
-fn sums_within(a: [i64; 5], b: [i64; 5], bound: u64) -> bool
-    requires { ⌜ bound ≤ 5400000000000000000 ⌝ }
-    requires { ⌜ allWithin bound a ≡ true ⌝ }
-    requires { ⌜ allWithin bound b ≡ true ⌝ }
-    ensures { λ r. ⌜ r ≡ allWithin bound (signedEach _+ℤ_ a b) ⌝ }
+// Whether two lists of sums within the bounds of refusal 9 are there together.
+fn together_within(a: &[i64; 80], b: &[i64; 80]) -> bool
+    requires { ⌜ within (now a) ≡ true ⌝ }
+    requires { ⌜ within (now b) ≡ true ⌝ }
+    ensures { λ r. ⌜ r ≡ within (plus (now (a .entry)) (now (b .entry))) ⌝ }
 {
-    for k in 0..5 {
-        let x = a[k];
-        let y = b[k];
-        if !sum_within(x, y, bound) {
+    for place in 0..80 {
+        let x = a[place];
+        let y = b[place];
+        if !sum_within(x, y, bound_at(place)) {
             return false;
         }
     }
     true
 }
 
-// Whether no sum of two lists' counts, place by place, is above a bound.
-fn counts_within(a: [u32; 25], b: [u32; 25], bound: u32) -> bool
-    requires { ⌜ bound ≤ 100000000 ⌝ }
-    requires { ⌜ allAtMost bound a ≡ true ⌝ }
-    requires { ⌜ allAtMost bound b ≡ true ⌝ }
-    ensures { λ r. ⌜ r ≡ allAtMost bound (countEach _+_ a b) ⌝ }
+// Each sum of a list plus another's.
+fn plus_each(a: &[i64; 80], b: &[i64; 80]) -> [i64; 80]
+    requires { ⌜ within (plus (now a) (now b)) ≡ true ⌝ }
+    ensures { λ r. ⌜ r ≡ plus (now (a .entry)) (now (b .entry)) ⌝ }
 {
-    for k in 0..25 {
-        if a[k] + b[k] > bound {
-            return false;
-        }
-    }
-    true
-}
-
-// Whether sums are within some times the bounds of refusal 9.
-fn are_within(sums: Sums, times: u32) -> bool
-    requires { ⌜ times ≤ 200 ⌝ }
-    ensures { λ r. ⌜ r ≡ within times sums ⌝ }
-{
-    let thirtieths = sums.thirtieths;
-    let closings = sums.closings;
-    let recoveries = sums.recoveries;
-    let deaths = sums.deaths;
-    are_bounded(
-        27000000000 * times as u64,
-        27000000000000000 * times as u64,
-        500000 * times,
-        &thirtieths,
-        &closings,
-        &recoveries,
-        &deaths,
-    )
-}
-
-// Whether the sums of two sets of claims together are, where each of the two is.
-fn together_within(a: Sums, b: Sums, times: u32) -> bool
-    requires { ⌜ times ≤ 200 ⌝ }
-    requires { ⌜ within times a ≡ true ⌝ }
-    requires { ⌜ within times b ≡ true ⌝ }
-    ensures { λ r. ⌜ r ≡ within times (plus a b) ⌝ }
-{
-    let a_thirtieths = a.thirtieths;
-    let b_thirtieths = b.thirtieths;
-    if !sums_within(a_thirtieths, b_thirtieths, 27000000000 * times as u64) {
-        return false;
-    }
-    let expected = 27000000000000000 * times as u64;
-    let a_recoveries = a.recoveries;
-    let b_recoveries = b.recoveries;
-    if !sums_within(a_recoveries, b_recoveries, expected) {
-        return false;
-    }
-    let a_deaths = a.deaths;
-    let b_deaths = b.deaths;
-    if !sums_within(a_deaths, b_deaths, expected) {
-        return false;
-    }
-    let a_closings = a.closings;
-    let b_closings = b.closings;
-    counts_within(a_closings, b_closings, 500000 * times)
-}
-
-// Whether two sums, and both together, are within some times the bounds of refusal 9.
-fn joined_within(a: Sums, b: Sums, times: u32) -> bool
-    requires { ⌜ times ≤ 200 ⌝ }
-    ensures { λ r. ⌜ r ≡ joinedWithin times a b ⌝ }
-{
-    if !are_within(a, times) {
-        return false;
-    }
-    if !are_within(b, times) {
-        return false;
-    }
-    together_within(a, b, times)
-}
-
-// Each number of a list plus another's.
-fn plus_each(a: [i64; 5], b: [i64; 5]) -> [i64; 5]
-    requires { ⌜ allWithin 5400000000000000000 (signedEach _+ℤ_ a b) ≡ true ⌝ }
-    ensures { λ r. ⌜ r ≡ signedEach _+ℤ_ a b ⌝ }
-{
-    let mut sums = [0; 5];
-    for place in 0..5 {
+    let mut sums = [0; 80];
+    for place in 0..80 {
         sums[place] = a[place] + b[place];
     }
     sums
-}
-
-// Each count of a list plus another's.
-fn plus_counts(a: [u32; 25], b: [u32; 25]) -> [u32; 25]
-    requires { ⌜ allAtMost 100000000 (countEach _+_ a b) ≡ true ⌝ }
-    ensures { λ r. ⌜ r ≡ countEach _+_ a b ⌝ }
-{
-    let mut counts = [0; 25];
-    for place in 0..25 {
-        counts[place] = a[place] + b[place];
-    }
-    counts
-}
-
-// The sums of two sets of claims together.
-fn both_sums(a: Sums, b: Sums) -> Sums
-    requires { ⌜ within 200 (plus a b) ≡ true ⌝ }
-    ensures { λ r. ⌜ r ≡ plus a b ⌝ }
-{
-    let a_thirtieths = a.thirtieths;
-    let b_thirtieths = b.thirtieths;
-    let a_closings = a.closings;
-    let b_closings = b.closings;
-    let a_recoveries = a.recoveries;
-    let b_recoveries = b.recoveries;
-    let a_deaths = a.deaths;
-    let b_deaths = b.deaths;
-    Sums {
-        thirtieths: plus_each(a_thirtieths, b_thirtieths),
-        closings: plus_counts(a_closings, b_closings),
-        recoveries: plus_each(a_recoveries, b_recoveries),
-        deaths: plus_each(a_deaths, b_deaths),
-    }
 }
 
 // Check 9 of a join: the counts of claims are compared without adding, since 32 bits may not hold both.
 fn have_room(study: Study, other: Study) -> bool
     ensures { λ r. ⌜ r ≡ joinRoom study other ⌝ }
 {
-    if study.taken > 500000 {
+    if study.taken > MOST_CLAIMS {
         return false;
     }
-    if other.taken > 500000 - study.taken {
+    if other.taken > MOST_CLAIMS - study.taken {
         return false;
     }
     let sums = study.sums;
-    let other_sums = other.sums;
-    if !joined_within(sums, other_sums, 1) {
+    let others = other.sums;
+    if !has_room(&sums) {
         return false;
     }
-    let weighted = study.weighted;
-    let other_weighted = other.weighted;
-    joined_within(weighted, other_weighted, 200)
+    if !has_room(&others) {
+        return false;
+    }
+    together_within(&sums, &others)
 }
 
 // The number of the first check of a join that fails, or 0.
@@ -225,16 +117,13 @@ impl Study {
         }
         let window = self.window;
         let sums = self.sums;
-        let other_sums = other.sums;
-        let weighted = self.weighted;
-        let other_weighted = other.weighted;
+        let others = other.sums;
         Answer {
             refused: 0,
             study: Study {
                 window,
                 taken: self.taken + other.taken,
-                sums: both_sums(sums, other_sums),
-                weighted: both_sums(weighted, other_weighted),
+                sums: plus_each(&sums, &others),
             },
         }
     }

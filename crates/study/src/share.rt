@@ -1,16 +1,18 @@
-// A span's share of a study, added to the lent sums of both sets: a band of months for each group, and the closing.
+// A span's share of a study, added to the lent sums: a band of months for each group, and the closing.
 ghost use mathlib.Core.Path.{_≡_};
 ghost use Prim.Native.Nat.{_+_, _-_, _*_, _≤_, _<_, min};
 ghost use lib.IntN.{pos, natAbs, _*ℤ_};
-ghost use lib.ListN.{length, getD, set};
 ghost use denote.Ref.{now};
+ghost use Rattle.basics.specs.Limits.{most-benefit};
 ghost use Rattle.claim_months.specs.Span.{spanU, bandSum, SpanBounds};
 ghost use Rattle.rates.specs.Rates.{groupLast};
 ghost use Rattle.rates.specs.Prepared.{recoveryOf, deathOf};
-ghost use Rattle.study.specs.Sums.{signedEach, countEach};
-ghost use Rattle.study.specs.PreparedAdding.{guardedSum, guardedCount};
-ghost use Rattle.study.specs.Private.{monthSums, spanClosings, timesSums, timesCounts};
-use crate::room::is_within;
+ghost use Rattle.study.specs.PreparedAdding.{guardedPlus};
+ghost use Rattle.study.specs.Private.{monthsFigure, closingFigure, shareBy};
+use crate::sums::DEATHS;
+use crate::sums::RECOVERIES;
+use crate::sums::THIRTIETHS;
+use crate::sums::raise_both;
 use basics::Duration;
 use claim_months::Span;
 use rates::Cell;
@@ -112,33 +114,6 @@ fn band_short(span: Span, end: u32, last: u32) -> u32
     0
 }
 
-// Adds an amount to one of some sums, unless it is past some times the bounds of refusal 9: so 64 bits hold any sum.
-fn raise(sums: &mut [i64], place: usize, amount: i64, times: u64)
-    requires { ⌜ place < length (now sums) ⌝ }
-    requires { ⌜ times ≤ 200 ⌝ }
-    requires { ⌜ natAbs amount ≤ 1000000000000000000 ⌝ }
-    ensures { λ _. ⌜ now (sums .exit) ≡ set (now (sums .entry)) place (guardedSum times (getD (now (sums .entry)) place (pos 0)) amount) ⌝ }
-{
-    let before = sums[place];
-    if !is_within(before, 27000000000000000 * times) {
-        return;
-    }
-    sums[place] = before + amount;
-}
-
-// Adds an amount to one of some sums, and the amount times a weight to the same of the weighted ones.
-fn raise_both(sums: &mut [i64], weighted: &mut [i64], place: usize, amount: i64, weight: u8)
-    requires { ⌜ place < length (now sums) ⌝ }
-    requires { ⌜ place < length (now weighted) ⌝ }
-    requires { ⌜ natAbs amount ≤ 1000000000000000 ⌝ }
-    requires { ⌜ weight ≤ 200 ⌝ }
-    ensures { λ _. ⌜ now (sums .exit) ≡ set (now (sums .entry)) place (guardedSum 1 (getD (now (sums .entry)) place (pos 0)) amount) ⌝ }
-    ensures { λ _. ⌜ now (weighted .exit) ≡ set (now (weighted .entry)) place (guardedSum 200 (getD (now (weighted .entry)) place (pos 0)) (pos weight *ℤ amount)) ⌝ }
-{
-    raise(sums, place, amount, 1);
-    raise(weighted, place, weight as i64 * amount, 200);
-}
-
 // Adds a span's months to the sums of their groups: one step for each group that the span touches.
 pub(crate) fn add_months(
     kind: Kind,
@@ -146,28 +121,13 @@ pub(crate) fn add_months(
     cell: Cell,
     span: Span,
     weight: u8,
-    thirtieths: &mut [i64],
-    recoveries: &mut [i64],
-    deaths: &mut [i64],
-    weighted_thirtieths: &mut [i64],
-    weighted_recoveries: &mut [i64],
-    weighted_deaths: &mut [i64],
+    sums: &mut [i64; 80],
 )
     requires { ⌜ SpanBounds span ⌝ }
-    requires { ⌜ weight ≤ 200 ⌝ }
-    requires { ⌜ length (now thirtieths) ≡ 5 ⌝ }
-    requires { ⌜ length (now recoveries) ≡ 5 ⌝ }
-    requires { ⌜ length (now deaths) ≡ 5 ⌝ }
-    requires { ⌜ length (now «weighted_thirtieths») ≡ 5 ⌝ }
-    requires { ⌜ length (now «weighted_recoveries») ≡ 5 ⌝ }
-    requires { ⌜ length (now «weighted_deaths») ≡ 5 ⌝ }
-    ensures { λ _. ⌜ now (thirtieths .exit) ≡ signedEach (guardedSum 1) (now (thirtieths .entry)) (monthSums (λ d. pos 1) span (span .months)) ⌝ }
-    ensures { λ _. ⌜ now (recoveries .exit) ≡ signedEach (guardedSum 1) (now (recoveries .entry)) (monthSums (recoveryOf kind (now (table .entry)) (cell .0)) span (span .months)) ⌝ }
-    ensures { λ _. ⌜ now (deaths .exit) ≡ signedEach (guardedSum 1) (now (deaths .entry)) (monthSums (deathOf kind (now (table .entry)) (cell .0)) span (span .months)) ⌝ }
-    ensures { λ _. ⌜ now («weighted_thirtieths» .exit) ≡ signedEach (guardedSum 200) (now («weighted_thirtieths» .entry)) (timesSums weight (monthSums (λ d. pos 1) span (span .months))) ⌝ }
-    ensures { λ _. ⌜ now («weighted_recoveries» .exit) ≡ signedEach (guardedSum 200) (now («weighted_recoveries» .entry)) (timesSums weight (monthSums (recoveryOf kind (now (table .entry)) (cell .0)) span (span .months))) ⌝ }
-    ensures { λ _. ⌜ now («weighted_deaths» .exit) ≡ signedEach (guardedSum 200) (now («weighted_deaths» .entry)) (timesSums weight (monthSums (deathOf kind (now (table .entry)) (cell .0)) span (span .months))) ⌝ }
+    requires { ⌜ weight ≤ most-benefit ⌝ }
+    ensures { λ _. ⌜ now (sums .exit) ≡ guardedPlus (now (sums .entry)) (shareBy weight (monthsFigure (recoveryOf kind (now (table .entry)) (cell .0)) (deathOf kind (now (table .entry)) (cell .0)) span (span .months))) ⌝ }
 {
+    let list = &mut sums[..];
     if span.months == 0 {
         return;
     }
@@ -178,49 +138,28 @@ pub(crate) fn add_months(
         let end = band_end(first, last);
         let short = band_short(span, end, last);
         let months = end - first + 1;
-        let place = (rates::group(Duration(first)) - 1) as usize;
+        let group = rates::group(Duration(first));
         let expected = band_rates(kind, table, cell, Duration(first), months, before, short);
         let exposed = band_thirtieths(months, before, short);
-        raise_both(thirtieths, weighted_thirtieths, place, exposed, weight);
-        raise_both(
-            recoveries,
-            weighted_recoveries,
-            place,
-            expected.recoveries,
-            weight,
-        );
-        raise_both(deaths, weighted_deaths, place, expected.deaths, weight);
+        raise_both(list, group, THIRTIETHS, exposed, weight);
+        raise_both(list, group, RECOVERIES, expected.recoveries, weight);
+        raise_both(list, group, DEATHS, expected.deaths, weight);
         first = end + 1;
         before = 0;
     }
 }
 
-// Adds to a count, unless it is past some times the bound of refusal 9.
-fn raise_count(counts: &mut [u32], place: usize, amount: u8, times: u32)
-    requires { ⌜ place < length (now counts) ⌝ }
-    requires { ⌜ times ≤ 200 ⌝ }
-    ensures { λ _. ⌜ now (counts .exit) ≡ set (now (counts .entry)) place (guardedCount times (getD (now (counts .entry)) place 0) amount) ⌝ }
-{
-    if counts[place] > 500000 * times {
-        return;
-    }
-    counts[place] += amount as u32;
-}
-
-// Counts a span's closing month, if it has one, under its group and category, and its weight at the same place of the weighted counts.
-pub(crate) fn add_closing(span: Span, weight: u8, counts: &mut [u32], weighted: &mut [u32])
+// Counts a span's closing month, if it has one, under its group and category, and its weight at the same place of the weighted set.
+pub(crate) fn add_closing(span: Span, weight: u8, sums: &mut [i64; 80])
     requires { ⌜ SpanBounds span ⌝ }
-    requires { ⌜ length (now counts) ≡ 25 ⌝ }
-    requires { ⌜ length (now weighted) ≡ 25 ⌝ }
-    ensures { λ _. ⌜ now (counts .exit) ≡ countEach (guardedCount 1) (now (counts .entry)) (spanClosings span) ⌝ }
-    ensures { λ _. ⌜ now (weighted .exit) ≡ countEach (guardedCount 200) (now (weighted .entry)) (timesCounts weight (spanClosings span)) ⌝ }
+    requires { ⌜ weight ≤ most-benefit ⌝ }
+    ensures { λ _. ⌜ now (sums .exit) ≡ guardedPlus (now (sums .entry)) (shareBy weight (closingFigure span)) ⌝ }
 {
+    let list = &mut sums[..];
     let category = span.category;
     if category == 0 {
         return;
     }
-    let duration = Duration(span.first.0 + span.months - 1);
-    let place = (5 * (rates::group(duration) - 1) + (category - 1)) as usize;
-    raise_count(counts, place, 1, 1);
-    raise_count(weighted, place, weight, 200);
+    let group = rates::group(Duration(span.first.0 + span.months - 1));
+    raise_both(list, group, category, 1, weight);
 }

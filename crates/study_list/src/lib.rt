@@ -1,18 +1,16 @@
-// A study as a list of 83 numbers, for the calls of C and Rust.
+// A study as a list of 83 numbers, for the calls of C and Rust: first day, last day, claims taken, then its 80 sums.
 ghost use mathlib.Core.Path.{_≡_};
-ghost use Prim.Native.Nat.{_+_, _*_, _≤_, _<_};
+ghost use Prim.Native.Nat.{_+_, _≤_};
 ghost use denote.Ref.{now};
 ghost use lib.Dec.{leb};
 ghost use lib.IntN.{pos};
 ghost use lib.ListN.{length};
 ghost use lib.Seq.{sets};
-ghost use mathlib.Core.List.{[], _∷_};
 ghost use Rattle.basics.specs.Pick.{pick};
-ghost use Rattle.study_list.specs.StudyList.{countNumbers, groupNumbers, groupsNumbers, studyNumbers, placedNumbers};
+ghost use Rattle.study_list.specs.StudyList.{studyNumbers, placedNumbers};
 ghost use Rattle.study_list.specs.Lent.{answered, stored};
-use study::Group;
+use basics::limits::NO_FORM;
 use study::Study;
-use study::Sums;
 
 // A number as a signed one.
 pub fn signed(number: u32) -> i64
@@ -21,46 +19,14 @@ pub fn signed(number: u32) -> i64
     number as i64
 }
 
-// Stores a number.
-fn put(number: i64, at: usize, out: &mut [i64])
-    requires { ⌜ at < length (now out) ⌝ }
-    ensures { λ _. ⌜ now (out .exit) ≡ sets (now (out .entry)) at (number ∷ []) ⌝ }
+// Stores a study's sums from a place on.
+fn put_sums(sums: &[i64; 80], at: usize, out: &mut [i64])
+    requires { ⌜ at + 80 ≤ length (now out) ⌝ }
+    ensures { λ _. ⌜ now (out .exit) ≡ sets (now (out .entry)) at (now (sums .entry)) ⌝ }
 {
-    out[at] = number;
-}
-
-// Stores a group's five closing counts.
-fn put_counts(counts: [u32; 5], at: usize, out: &mut [i64])
-    requires { ⌜ at + 5 ≤ length (now out) ⌝ }
-    ensures { λ _. ⌜ now (out .exit) ≡ sets (now (out .entry)) at (countNumbers counts) ⌝ }
-{
-    for x in 0..5 {
-        put(signed(counts[x]), at + x, out);
-    }
-}
-
-// Stores the eight numbers of a group.
-fn put_group(figures: Group, at: usize, out: &mut [i64])
-    requires { ⌜ at + 8 ≤ length (now out) ⌝ }
-    ensures { λ _. ⌜ now (out .exit) ≡ sets (now (out .entry)) at (groupNumbers figures) ⌝ }
-{
-    let thirtieths = figures.thirtieths;
-    let closings = figures.closings;
-    let recoveries = figures.recoveries;
-    let deaths = figures.deaths;
-    put(thirtieths, at, out);
-    put_counts(closings, at + 1, out);
-    put(recoveries, at + 6, out);
-    put(deaths, at + 7, out);
-}
-
-// Stores the numbers of the five groups.
-fn put_groups(sums: Sums, at: usize, out: &mut [i64])
-    requires { ⌜ at + 40 ≤ length (now out) ⌝ }
-    ensures { λ _. ⌜ now (out .exit) ≡ sets (now (out .entry)) at (groupsNumbers sums 5) ⌝ }
-{
-    for group in 0..5 {
-        put_group(sums.group(group as u8 + 1), at + 8 * group, out);
+    let list = &sums[..];
+    for place in 0..80 {
+        out[at + place] = list[place];
     }
 }
 
@@ -70,12 +36,10 @@ fn store_study(study: Study, at: usize, out: &mut [i64])
     ensures { λ _. ⌜ now (out .exit) ≡ sets (now (out .entry)) at (studyNumbers study) ⌝ }
 {
     let sums = study.sums;
-    let weighted = study.weighted;
-    put(signed(study.window.first.0), at, out);
-    put(signed(study.window.last.0), at + 1, out);
-    put(signed(study.taken), at + 2, out);
-    put_groups(sums, at + 3, out);
-    put_groups(weighted, at + 43, out);
+    out[at] = signed(study.window.first.0);
+    out[at + 1] = signed(study.window.last.0);
+    out[at + 2] = signed(study.taken);
+    put_sums(&sums, at + 3, out);
 }
 
 // Stores a study's 83 numbers from a place on, and answers whether they fit there; nothing is written where they don't.
@@ -100,7 +64,7 @@ pub fn put_placed(study: Study, refused: u8, block: u32, place: u8, out: &mut [i
     ensures { λ _. ⌜ now (out .exit) ≡ stored 86 (now (out .entry)) (sets (now (out .entry)) 0 (placedNumbers refused block place study)) ⌝ }
 {
     if out.len() < 86 {
-        return 255;
+        return NO_FORM;
     }
     out[0] = signed(refused as u32);
     out[1] = signed(block);

@@ -1,5 +1,5 @@
 // Studies that no opening made, at the edges of the checks 1 and 9, and the order of the checks.
-ghost use Prim.Native.Nat.{_<_};
+ghost use Prim.Native.Nat.{_+_, _≤_, _<_};
 use crate::claims::claim;
 use crate::figures::figures;
 use crate::figures::put_groups;
@@ -7,7 +7,6 @@ use crate::figures::same_study;
 use calendar::Day;
 use claim_months::Window;
 use study::Study;
-use study::Sums;
 use test_support::dates::date;
 use test_support::numbers::bits;
 use test_support::print::put;
@@ -65,6 +64,43 @@ fn opening(first: u32, last: u32) {
     put(b"\n");
 }
 
+// The sums of a group from a place on: thirtieths, five counts, expected recoveries and deaths.
+fn with_group(
+    sums: [i64; 80],
+    at: usize,
+    thirtieths: i64,
+    count: i64,
+    recoveries: i64,
+    deaths: i64,
+) -> [i64; 80]
+    requires { ⌜ at + 8 ≤ 80 ⌝ }
+{
+    let mut after = sums;
+    after[at] = thirtieths;
+    after[at + 1] = count;
+    after[at + 2] = count;
+    after[at + 3] = count;
+    after[at + 4] = count;
+    after[at + 5] = count;
+    after[at + 6] = recoveries;
+    after[at + 7] = deaths;
+    after
+}
+
+// Another number in each group's columns of sums, and one in its counts.
+fn made_sums() -> [i64; 80] {
+    let one = with_group([0; 80], 0, 10, 40, 20, 30);
+    let two = with_group(one, 8, 11, 40, 21, 31);
+    let three = with_group(two, 16, 12, 40, 22, 32);
+    let four = with_group(three, 24, 13, 40, 23, 33);
+    let five = with_group(four, 32, 14, 40, 24, 34);
+    let six = with_group(five, 40, 50, 90, 60, 70);
+    let seven = with_group(six, 48, 51, 90, 61, 71);
+    let eight = with_group(seven, 56, 52, 90, 62, 72);
+    let nine = with_group(eight, 64, 53, 90, 63, 73);
+    with_group(nine, 72, 54, 90, 64, 74)
+}
+
 // A study of a window, with claims taken and sums and counts that no claim gave it.
 pub(crate) fn made(first: u32, last: u32, taken: u32) -> Study {
     Study {
@@ -73,18 +109,7 @@ pub(crate) fn made(first: u32, last: u32, taken: u32) -> Study {
             last: Day(last),
         },
         taken,
-        sums: Sums {
-            thirtieths: [10, 11, 12, 13, 14],
-            closings: [40; 25],
-            recoveries: [20, 21, 22, 23, 24],
-            deaths: [30, 31, 32, 33, 34],
-        },
-        weighted: Sums {
-            thirtieths: [50, 51, 52, 53, 54],
-            closings: [90; 25],
-            recoveries: [60, 61, 62, 63, 64],
-            deaths: [70, 71, 72, 73, 74],
-        },
+        sums: made_sums(),
     }
 }
 
@@ -137,6 +162,7 @@ fn counts(table: &[u32; 1916]) {
     closing(0, 500000, table);
     closing(24, 500001, table);
     closing(12, 4000000000, table);
+    closing(7, -1, table);
 }
 
 fn taken(count: u32, table: &[u32; 1916]) {
@@ -145,19 +171,18 @@ fn taken(count: u32, table: &[u32; 1916]) {
     show(made(21550, 24836, count), 1, table);
 }
 
-fn closing(place: usize, count: u32, table: &[u32; 1916])
+// The count at a place of the 25 in order.
+fn closing(place: usize, count: i64, table: &[u32; 1916])
     requires { ⌜ place < 25 ⌝ }
 {
     put(b"closings");
     put_next(place as u64);
-    put_next(count as u64);
-    let mut study = given();
-    let mut sums = study.sums;
-    let mut closings = sums.closings;
-    closings[place] = count;
-    sums.closings = closings;
-    study.sums = sums;
-    show(study, 1, table);
+    put_next_signed(bits(count));
+    show(
+        with_number(8 * (place / 5) + place % 5 + 1, count),
+        1,
+        table,
+    );
 }
 
 fn sums(table: &[u32; 1916]) {
@@ -189,38 +214,26 @@ fn sum(field: u8, place: usize, sum: i64, table: &[u32; 1916])
     show(with_sum(field, place, sum), 1, table);
 }
 
-pub(crate) fn changed(sums: [i64; 5], place: usize, sum: i64) -> [i64; 5]
-    requires { ⌜ place < 5 ⌝ }
-{
-    let mut after = sums;
-    after[place] = sum;
-    after
-}
-
-pub(crate) fn with_sum(field: u8, place: usize, sum: i64) -> Study
-    requires { ⌜ place < 5 ⌝ }
+// A study with a number at one place of its sums.
+pub(crate) fn with_number(place: usize, number: i64) -> Study
+    requires { ⌜ place < 80 ⌝ }
 {
     let mut study = given();
     let mut sums = study.sums;
-    match field {
-        0 => {
-            let before = sums.thirtieths;
-            let after = changed(before, place, sum);
-            sums.thirtieths = after;
-        }
-        1 => {
-            let before = sums.recoveries;
-            let after = changed(before, place, sum);
-            sums.recoveries = after;
-        }
-        _ => {
-            let before = sums.deaths;
-            let after = changed(before, place, sum);
-            sums.deaths = after;
-        }
-    }
+    sums[place] = number;
     study.sums = sums;
     study
+}
+
+// The same by field and group: thirtieths at 0, expected recoveries at 1, expected deaths at 2.
+pub(crate) fn with_sum(field: u8, place: usize, sum: i64) -> Study
+    requires { ⌜ place < 10 ⌝ }
+{
+    match field {
+        0 => with_number(8 * place, sum),
+        1 => with_number(8 * place + 6, sum),
+        _ => with_number(8 * place + 7, sum),
+    }
 }
 
 // The same with the first rates of the table only.

@@ -1,52 +1,34 @@
-// A study's sums and counts as one list of 64-bit numbers, a negative one as 2^64 more: eight for each group, the groups in order.
-ghost use Prim.Native.Nat.{_<_};
+// The sums of one set of a study as a list of 64-bit numbers, a negative one as 2^64 more: eight for each group, the groups in order.
+ghost use Prim.Native.Nat.{_≤_, _<_};
 use std::num::wrapping_add_u64;
-use study::Group;
 use study::Study;
-use study::Sums;
 use test_support::lists::same;
 use test_support::numbers::bits;
 use test_support::print::put;
 use test_support::print::put_next_signed;
 use test_support::print::put_number;
 
-// A group's figures in order: thirtieths, the five closing counts, expected recoveries and deaths.
-fn group_figure(group: Group, place: usize) -> u64
-    requires { ⌜ place < 8 ⌝ }
+// The list with the sums of a study from a place on added, place by place.
+fn with_set(list: [u64; 40], study: Study, from: usize) -> [u64; 40]
+    requires { ⌜ from ≤ 40 ⌝ }
 {
-    if place == 0 {
-        return bits(group.thirtieths);
-    }
-    if place == 6 {
-        return bits(group.recoveries);
-    }
-    if place == 7 {
-        return bits(group.deaths);
-    }
-    let closings = group.closings;
-    closings[place - 1] as u64
-}
-
-fn figure(sums: Sums, place: usize) -> u64
-    requires { ⌜ place < 40 ⌝ }
-{
-    group_figure(sums.group((place / 8 + 1) as u8), place % 8)
-}
-
-// The list with the figures of some sums added, place by place.
-pub(crate) fn with_sums(list: [u64; 40], sums: Sums) -> [u64; 40] {
+    let sums = study.sums;
     let mut after = list;
     let mut k = 0;
     while k < 40 {
-        after[k] = wrapping_add_u64(list[k], figure(sums, k));
+        let sum = sums[from + k];
+        after[k] = wrapping_add_u64(list[k], bits(sum));
         k += 1;
     }
     after
 }
 
 pub(crate) fn with_study(list: [u64; 40], study: Study) -> [u64; 40] {
-    let sums = study.sums;
-    with_sums(list, sums)
+    with_set(list, study, 0)
+}
+
+pub(crate) fn with_weighted(list: [u64; 40], study: Study) -> [u64; 40] {
+    with_set(list, study, 40)
 }
 
 pub(crate) fn figures(study: Study) -> [u64; 40] {
@@ -54,8 +36,7 @@ pub(crate) fn figures(study: Study) -> [u64; 40] {
 }
 
 pub(crate) fn weighted_figures(study: Study) -> [u64; 40] {
-    let weighted = study.weighted;
-    with_sums([0; 40], weighted)
+    with_weighted([0; 40], study)
 }
 
 // Whether two studies are the same in every field.

@@ -1,13 +1,12 @@
 // The weighted set (document 02, No. 7): what a claim weighs, the parts' weighted sums, and their bounds.
-ghost use Prim.Native.Nat.{_<_};
 use crate::claims::claim;
-use crate::edges::changed;
-use crate::edges::given;
+use crate::edges::with_number;
+use crate::edges::with_sum;
 use crate::figures::figures;
 use crate::figures::put_groups;
 use crate::figures::same_study;
 use crate::figures::weighted_figures;
-use crate::figures::with_sums;
+use crate::figures::with_weighted;
 use crate::opened;
 use crate::put_yes;
 use claim_months::Claim;
@@ -39,6 +38,7 @@ pub(crate) fn weights(table: &[u32; 1916]) {
     bounds(table);
     closing(100000000, table);
     closing(100000001, table);
+    closing(-1, table);
 }
 
 // A claim of the list with a benefit.
@@ -83,8 +83,7 @@ fn parts(table: &[u32; 1916]) {
     put(b"weighted\n");
     put_groups(&weighted_figures(whole));
     put(b"weighted parts equal");
-    let other = b.weighted;
-    let total = with_sums(weighted_figures(a), other);
+    let total = with_weighted(weighted_figures(a), b);
     put_yes(same(&total, &weighted_figures(whole)));
     put(b"\n");
 }
@@ -121,38 +120,12 @@ fn bound(field: u8, sum: i64, table: &[u32; 1916]) {
     put(b"weighted bound");
     put_next(field as u64);
     put_next_signed(bits(sum));
-    let mut study = given();
-    let mut sums = study.weighted;
-    match field {
-        0 => {
-            let before = sums.thirtieths;
-            let after = changed(before, 2, sum);
-            sums.thirtieths = after;
-        }
-        1 => {
-            let before = sums.recoveries;
-            let after = changed(before, 2, sum);
-            sums.recoveries = after;
-        }
-        _ => {
-            let before = sums.deaths;
-            let after = changed(before, 2, sum);
-            sums.deaths = after;
-        }
-    }
-    study.weighted = sums;
-    show(study, table);
+    show(with_sum(field, 7, sum), table);
 }
 
 // The weighted closing sum of group 3 under recovery.
-fn closing(sum: u32, table: &[u32; 1916]) {
+fn closing(sum: i64, table: &[u32; 1916]) {
     put(b"weighted closings");
-    put_next(sum as u64);
-    let mut study = given();
-    let mut sums = study.weighted;
-    let mut closings = sums.closings;
-    closings[10] = sum;
-    sums.closings = closings;
-    study.weighted = sums;
-    show(study, table);
+    put_next_signed(bits(sum));
+    show(with_number(57, sum), table);
 }

@@ -8,7 +8,8 @@ use crate::figures::figures;
 use crate::figures::put_groups;
 use crate::figures::same_study;
 use crate::figures::weighted_figures;
-use crate::figures::with_sums;
+use crate::figures::with_study;
+use crate::figures::with_weighted;
 use crate::opened;
 use crate::put_yes;
 use crate::weights::weighing;
@@ -91,11 +92,9 @@ fn moves(table: &[u32; 1916]) {
     let a = undone(20090101, 20110215, table);
     let b = undone(20110216, 20171231, table);
     put(b"moves parts equal");
-    let sums = b.sums;
-    let weighted = b.weighted;
-    put_yes(same(&with_sums(figures(a), sums), &figures(whole)));
+    put_yes(same(&with_study(figures(a), b), &figures(whole)));
     put_yes(same(
-        &with_sums(weighted_figures(a), weighted),
+        &with_weighted(weighted_figures(a), b),
         &weighted_figures(whole),
     ));
     put(b"\n");
@@ -136,18 +135,12 @@ fn lacking(table: &[u32; 1916]) {
 }
 
 // A study with some closings of group 3 under recovery in both sets: those that the second claim has with a benefit of 200, and one less.
-fn closing(name: &[u8], count: u32, sum: u32, table: &[u32; 1916]) {
+fn closing(name: &[u8], count: i64, sum: i64, table: &[u32; 1916]) {
     let mut study = given();
     let mut sums = study.sums;
-    let mut weighted = study.weighted;
-    let mut counts = sums.closings;
-    let mut weighted_counts = weighted.closings;
-    counts[10] = count;
-    weighted_counts[10] = sum;
-    sums.closings = counts;
-    weighted.closings = weighted_counts;
+    sums[17] = count;
+    sums[57] = sum;
     study.sums = sums;
-    study.weighted = weighted;
     show(name, study, weighing(1, 200), table);
 }
 
@@ -159,6 +152,8 @@ fn closings(table: &[u32; 1916]) {
     closing(b"closings 1 100000000", 1, 100000000, table);
     closing(b"closings 1 100000001", 1, 100000001, table);
     closing(b"closings 0 100000001", 0, 100000001, table);
+    closing(b"closings -1 200", -1, 200, table);
+    closing(b"closings 1 -1", 1, -1, table);
 }
 
 fn taken(name: &[u8], count: u32, table: &[u32; 1916]) {

@@ -4,6 +4,7 @@ use mathlib.Core.Path.{_≡_}
 use mathlib.Core.Bool.{Bool, true, _&&_}
 use lib.Dec.{leb, eqb}
 use lib.IntN.{ℤ, pos, negsuc}
+use Rattle.basics.specs.Limits.{most-claims}
 use Rattle.basics.specs.Pick.{pick}
 use Rattle.basics.specs.Checks.{refuse-valuation}
 use Rattle.valuation.specs.declared.GroupFactor.{GroupFactor}
@@ -67,7 +68,7 @@ factorOf g c e =
 
 -- 12, valuation: group outside 1–5, C over 500,000
 unfoldable pub factorSound : ℕ → ℕ → Bool
-factorSound g c = leb 1 g && leb g 5 && leb c 500000
+factorSound g c = leb 1 g && leb g 5 && leb c most-claims
 
 -- z, m and T of a group. Group 1: T = 1,000,000, z and m 0
 unfoldable pub factorsOf : ℕ → ℕ → ℤ → GroupFactor

@@ -4,6 +4,7 @@ use mathlib.Core.List.{List, [], _∷_}
 use lib.Dec.{eqb}
 use lib.IntN.{ℤ}
 use lib.Ieee.{Float}
+use Rattle.basics.specs.Limits.{most-claims}
 use Rattle.basics.specs.Pick.{pick}
 use Rattle.valuation.specs.Reserve.{float}
 use Rattle.valuation.specs.ReserveLimit.{openClaimsCheck, reserveTotal}
@@ -26,4 +27,4 @@ refusedLimit n = record { refused = n; t = 0 ∷ 0 ∷ 0 ∷ 0 ∷ 0 ∷ []; giv
 -- the smallest count up to 500,000 whose T reaches the wanted one; 500,001 where none does
 unfoldable pub firstReaching : ℕ → ℤ → ℕ → ℕ
 firstReaching g e wanted =
-    pick (reachesWanted g e wanted 500000) (smallest (reachesWanted g e wanted) 500000) 500001
+    pick (reachesWanted g e wanted most-claims) (smallest (reachesWanted g e wanted) most-claims) 500001

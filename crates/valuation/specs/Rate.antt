@@ -3,6 +3,7 @@ use Prim.Native.Nat.{ℕ, _+_, _*_, _/_, min}
 use mathlib.Core.Bool.{Bool, _&&_}
 use mathlib.Core.List.{List}
 use lib.Dec.{leb, eqb}
+use Rattle.basics.specs.Limits.{last-duration}
 use Rattle.basics.specs.Pick.{pick}
 use Rattle.basics.specs.Checks.{check, _then_, refuse-valuation}
 use Rattle.rates.specs.Rates.{recoveryRate, deathRate, rateCheck}
@@ -15,7 +16,7 @@ valuationRate rates cell t d = min 1000000 (t * (recoveryRate rates cell d + dea
 
 -- 12, valuation: duration outside 2–480
 unfoldable pub durationSound : ℕ → Bool
-durationSound d = leb 2 d && leb d 480
+durationSound d = leb 2 d && leb d last-duration
 
 -- the number of the first of the checks 6 to 8 and 12 that fails, or 0
 unfoldable pub valuationCheck : List ℕ → ℕ → ℕ → ℕ

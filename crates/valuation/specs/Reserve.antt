@@ -6,6 +6,7 @@ use lib.ListN.{getD}
 use lib.Dec.{leb, eqb}
 use lib.IntN.{pos}
 use lib.Ieee.{Float, binary64, ofInt, add, mul, div, lt, le}
+use Rattle.basics.specs.Limits.{last-duration}
 use Rattle.basics.specs.Pick.{pick}
 use Rattle.basics.specs.Checks.{check, _then_, refuse-valuation, refuse-discount}
 use Rattle.rates.specs.Rates.{rateCheck, groupOf}
@@ -31,7 +32,7 @@ month run g v =
 
 -- the duration of month n = 1, 2, ..: first + n − 1, at most 480
 unfoldable pub monthDuration : ℕ → ℕ → ℕ
-monthDuration first n = min 480 (first + n - 1)
+monthDuration first n = min last-duration (first + n - 1)
 
 -- the T of a duration's group: group 1 has the first of the five
 unfoldable pub groupT : List ℕ → ℕ → ℕ
@@ -61,7 +62,7 @@ discountSound v = lt (float 0) v && le v (float 1)
 unfoldable pub reserveCheck : List ℕ → ℕ → ℕ → ℕ → Float → ℕ
 reserveCheck rates cell first months v =
     rateCheck rates cell
-    then check (durationSound first && leb months 480) refuse-valuation
+    then check (durationSound first && leb months last-duration) refuse-valuation
     then check (discountSound v) refuse-discount
 
 -- what the call for the reserve factor answers: the factor, or the number refused

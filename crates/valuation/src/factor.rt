@@ -3,10 +3,12 @@ ghost use mathlib.Core.Path.{_≡_};
 ghost use Prim.Native.Nat.{_+_, _-_, _*_, _/_, _≤_, _<_};
 ghost use lib.Dec.{eqb};
 ghost use lib.IntN.{pos};
+ghost use Rattle.basics.specs.Limits.{most-claims};
 ghost use Rattle.basics.specs.Pick.{pick};
 ghost use Rattle.valuation.specs.Factor.{groupK, groupTwiceA, positive, credibility, margin, factorsOf, factorIn};
 use crate::GroupFactor;
 use crate::MaybeFactor;
+use basics::limits::MOST_CLAIMS;
 use basics::refusal;
 
 // The one of four numbers that is the group's, 2 to 5.
@@ -47,7 +49,7 @@ pub(crate) fn positive_part(expected: i64) -> u64
 
 // The largest q with q² × unit ≤ bound, by halving: low is such a q, high is none. No root asked for passes 2,060,000, which is r where C = 1 and A = 4.
 fn root(unit: u64, bound: u64) -> u64
-    requires { ⌜ (unit ≤ 500000) × (bound < 2060000 * 2060000 * unit) ⌝ }
+    requires { ⌜ (unit ≤ most-claims) × (bound < 2060000 * 2060000 * unit) ⌝ }
     ensures { λ q. ⌜ (q < 2060000) × (q * q * unit ≤ bound) × (bound < (q + 1) * (q + 1) * unit) ⌝ }
 {
     let mut low = 0;
@@ -76,7 +78,7 @@ pub(crate) fn credibility_of(group: u8, expected: u64) -> u64
 
 // m of a group above 1. The smallest r that reaches is one above the largest that doesn't.
 pub(crate) fn margin_of(group: u8, terminations: u64) -> u64
-    requires { ⌜ terminations ≤ 500000 ⌝ }
+    requires { ⌜ terminations ≤ most-claims ⌝ }
     ensures { λ r. ⌜ r ≡ margin group terminations ⌝ }
 {
     if terminations == 0 {
@@ -91,7 +93,7 @@ pub(crate) fn margin_of(group: u8, terminations: u64) -> u64
 
 // T of a group above 1.
 pub(crate) fn t_of(z: u64, m: u64, terminations: u64, expected: u64) -> u64
-    requires { ⌜ (z ≤ 1000000) × (30000 ≤ m) × (m ≤ 150000) × (terminations ≤ 500000) ⌝ }
+    requires { ⌜ (z ≤ 1000000) × (30000 ≤ m) × (m ≤ 150000) × (terminations ≤ most-claims) ⌝ }
     ensures { λ r. ⌜ r ≡ pick (eqb expected 0) 1000000 (z * 30 * terminations * (1000000 - m) / expected + (1000000 - z)) ⌝ }
 {
     if expected == 0 {
@@ -102,7 +104,7 @@ pub(crate) fn t_of(z: u64, m: u64, terminations: u64, expected: u64) -> u64
 
 // z, m and T of a group above 1.
 fn factors_of(group: u8, terminations: u64, expected: u64) -> GroupFactor
-    requires { ⌜ (2 ≤ group) × (terminations ≤ 500000) ⌝ }
+    requires { ⌜ (2 ≤ group) × (terminations ≤ most-claims) ⌝ }
     ensures { λ r. ⌜ r ≡ factorsOf group terminations (pos expected) ⌝ }
 {
     let z = credibility_of(group, expected);
@@ -124,7 +126,7 @@ pub(crate) fn known_factor(group: u8, terminations: u64, expected: u64) -> Maybe
     if 5 < group {
         return MaybeFactor::Refused(refusal::VALUATION);
     }
-    if 500000 < terminations {
+    if terminations > MOST_CLAIMS as u64 {
         return MaybeFactor::Refused(refusal::VALUATION);
     }
     if group == 1 {

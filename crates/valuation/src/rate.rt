@@ -6,6 +6,7 @@ ghost use Rattle.rates.specs.Rates.{rateCheck};
 ghost use Rattle.valuation.specs.Rate.{valuationRate, rateIn};
 use crate::MaybeRate;
 use basics::Duration;
+use basics::limits::LAST_DURATION;
 use basics::refusal;
 use rates::Cell;
 use rates::check;
@@ -53,7 +54,7 @@ pub fn valuation_rate(rates: &[u32], cell: Cell, t: u64, duration: Duration) -> 
     if months < 2 {
         return MaybeRate::Refused(refusal::VALUATION);
     }
-    if months > 480 {
+    if months > LAST_DURATION {
         return MaybeRate::Refused(refusal::VALUATION);
     }
     MaybeRate::Rate(rate_of(rates, cell, t, duration))

@@ -2,11 +2,13 @@
 ghost use mathlib.Core.Path.{_≡_};
 ghost use Prim.Native.Nat.{_+_, _≤_};
 ghost use denote.Ref.{now};
+ghost use Rattle.basics.specs.Limits.{last-duration};
 ghost use Rattle.rates.specs.Rates.{rateCheck};
 ghost use Rattle.valuation.specs.Reserve.{month, monthDuration, monthRate, running, reserveCheck, reserveIn};
 use crate::Reserve;
 use crate::rate::rate_of;
 use basics::Duration;
+use basics::limits::LAST_DURATION;
 use basics::refusal;
 use rates::Cell;
 use rates::check;
@@ -35,19 +37,19 @@ fn step(run: Running, g: u32, v: f64) -> Running
 
 // The duration of the month after n others: one later each month, at most 480.
 fn later(first: Duration, n: u32) -> Duration
-    requires { ⌜ (first .0 ≤ 480) × (n ≤ 480) ⌝ }
+    requires { ⌜ (first .0 ≤ last-duration) × (n ≤ last-duration) ⌝ }
     ensures { λ r. ⌜ r .0 ≡ monthDuration (first .0) (n + 1) ⌝ }
 {
     let reached = first.0 + n;
-    if reached > 480 {
-        return Duration(480);
+    if reached > LAST_DURATION {
+        return Duration(LAST_DURATION);
     }
     Duration(reached)
 }
 
 // The valuation rate of the month after n others, with the T of its duration's group.
 fn month_rate(rates: &[u32], cell: Cell, first: Duration, t: [u64; 5], n: u32) -> u32
-    requires { ⌜ (rateCheck (now rates) (cell .0) ≡ 0) × (first .0 ≤ 480) × (n ≤ 480) ⌝ }
+    requires { ⌜ (rateCheck (now rates) (cell .0) ≡ 0) × (first .0 ≤ last-duration) × (n ≤ last-duration) ⌝ }
     ensures { λ r. ⌜ r ≡ monthRate (now (rates .entry)) (cell .0) (first .0) t (n + 1) ⌝ }
 {
     let duration = later(first, n);
@@ -64,7 +66,7 @@ pub(crate) fn after(
     months: u32,
     v: f64,
 ) -> Running
-    requires { ⌜ (rateCheck (now rates) (cell .0) ≡ 0) × (first .0 ≤ 480) × (months ≤ 480) ⌝ }
+    requires { ⌜ (rateCheck (now rates) (cell .0) ≡ 0) × (first .0 ≤ last-duration) × (months ≤ last-duration) ⌝ }
     ensures { λ r. ⌜ r ≡ running (now (rates .entry)) (cell .0) (first .0) t v months ⌝ }
 {
     let mut run = Running {
@@ -92,10 +94,10 @@ pub(crate) fn reserve_check(rates: &[u32], cell: Cell, first: Duration, months: 
     if duration < 2 {
         return refusal::VALUATION;
     }
-    if duration > 480 {
+    if duration > LAST_DURATION {
         return refusal::VALUATION;
     }
-    if months > 480 {
+    if months > LAST_DURATION {
         return refusal::VALUATION;
     }
     if v > 0.0 {

@@ -2,6 +2,7 @@
 ghost use mathlib.Core.Path.{_≡_};
 ghost use Prim.Native.Nat.{_≤_};
 ghost use lib.IntN.{pos};
+ghost use Rattle.basics.specs.Limits.{most-claims};
 ghost use Rattle.valuation.specs.Factor.{credibility};
 ghost use Rattle.valuation.specs.WantedCount.{reachesWanted, goodGroup, wantedIn};
 ghost use Rattle.valuation.specs.Private.{firstReaching};
@@ -10,11 +11,12 @@ use crate::factor::credibility_of;
 use crate::factor::margin_of;
 use crate::factor::positive_part;
 use crate::factor::t_of;
+use basics::limits::MOST_CLAIMS;
 use basics::refusal;
 
 // Whether T of a count is at least the wanted one. Its z is given, since no count changes it.
 fn reaches(group: u8, z: u64, count: u64, expected: u64, wanted: u64) -> bool
-    requires { ⌜ (z ≡ credibility group (pos expected)) × (count ≤ 500000) ⌝ }
+    requires { ⌜ (z ≡ credibility group (pos expected)) × (count ≤ most-claims) ⌝ }
     ensures { λ r. ⌜ r ≡ reachesWanted group (pos expected) wanted count ⌝ }
 {
     if group == 1 {
@@ -62,7 +64,7 @@ fn known_count(group: u8, expected: u64, wanted: u64) -> MaybeCount
         return MaybeCount::Refused(refusal::VALUATION);
     }
     let count = first_reaching(group, expected, wanted);
-    if 500000 < count {
+    if count > MOST_CLAIMS as u64 {
         return MaybeCount::Refused(refusal::NO_COUNT);
     }
     MaybeCount::Count(count as u32)

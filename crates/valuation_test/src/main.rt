@@ -1,7 +1,6 @@
 // z, m and T at the edges of each rule and check: from C and E for every group, then from a study's sums. Then the counts that reach a
 // wanted T.
 use std::num::wrapping_add_u64;
-use study::Sums;
 use test_support::print::put;
 use test_support::print::put_number;
 use valuation::MaybeCount;
@@ -15,6 +14,9 @@ const MOST: i64 = 9223372036854775807;
 const LEAST: i64 = -9223372036854775808;
 
 const FULL: u32 = 4294967295;
+
+// The same as a count of a study.
+const WORD: i64 = 4294967295;
 
 fn number(word: &[u8], n: u64) {
     put(word);
@@ -88,37 +90,30 @@ fn factors() {
     counts(b"E 9223372036854775807\n", MOST);
 }
 
-// Sums with the figures of one group at its places; every other figure is 1.
-fn sums_of(group: u8, counts: [u32; 5], expected_recoveries: i64, expected_deaths: i64) -> Sums {
-    let mut closings = [1u32; 25];
-    let mut recoveries = [1i64; 5];
-    let mut deaths = [1i64; 5];
+// Sums with the counts and expected sums of one group at its places; every other number is 1.
+fn sums_of(group: u8, counts: [i64; 5], recoveries: i64, deaths: i64) -> [i64; 80] {
+    let mut sums = [1; 80];
     if group >= 1 {
         if group <= 5 {
             let place = (group - 1) as usize;
-            let first = 5 * place;
-            closings[first] = counts[0];
-            closings[first + 1] = counts[1];
-            closings[first + 2] = counts[2];
-            closings[first + 3] = counts[3];
-            closings[first + 4] = counts[4];
-            recoveries[place] = expected_recoveries;
-            deaths[place] = expected_deaths;
+            let at = 8 * place;
+            sums[at + 1] = counts[0];
+            sums[at + 2] = counts[1];
+            sums[at + 3] = counts[2];
+            sums[at + 4] = counts[3];
+            sums[at + 5] = counts[4];
+            sums[at + 6] = recoveries;
+            sums[at + 7] = deaths;
         }
     }
-    Sums {
-        thirtieths: [1; 5],
-        closings,
-        recoveries,
-        deaths,
-    }
+    sums
 }
 
-fn of_sums(case: u64, group: u8, closings: [u32; 5], recoveries: i64, deaths: i64) {
+fn of_sums(case: u64, group: u8, closings: [i64; 5], recoveries: i64, deaths: i64) {
     number(b"case ", case);
     line(
         group,
-        study_factor(sums_of(group, closings, recoveries, deaths), group),
+        study_factor(&sums_of(group, closings, recoveries, deaths), group),
     );
 }
 
@@ -126,6 +121,7 @@ fn of_sums(case: u64, group: u8, closings: [u32; 5], recoveries: i64, deaths: i6
 fn alone(n: u32, group: u8) {
     number(b"one count ", n as u64);
     put(b"\n");
+    let n = n as i64;
     of_sums(1, group, [n, 0, 0, 0, 0], 6000000000, 3000000000);
     of_sums(2, group, [0, n, 0, 0, 0], 6000000000, 3000000000);
     of_sums(3, group, [0, 0, n, 0, 0], 6000000000, 3000000000);
@@ -137,17 +133,17 @@ fn alone(n: u32, group: u8) {
 fn together() {
     put(b"counts together\n");
     of_sums(1, 2, [300, 7, 0, 0, 0], 6000000000, 3000000000);
-    of_sums(2, 2, [7, 300, FULL, FULL, FULL], 6000000000, 3000000000);
-    of_sums(3, 2, [250000, 250000, FULL, FULL, FULL], 1, 0);
+    of_sums(2, 2, [7, 300, WORD, WORD, WORD], 6000000000, 3000000000);
+    of_sums(3, 2, [250000, 250000, WORD, WORD, WORD], 1, 0);
     of_sums(4, 2, [250001, 250000, 0, 0, 0], 1, 0);
     of_sums(5, 2, [250000, 250001, 0, 0, 0], 1, 0);
-    of_sums(6, 2, [FULL, 1, 0, 0, 0], 1, 0);
-    of_sums(7, 2, [1, FULL, 0, 0, 0], 1, 0);
-    of_sums(8, 2, [FULL, FULL, FULL, FULL, FULL], 1, 0);
-    of_sums(9, 1, [FULL, FULL, 0, 0, 0], MOST, MOST);
+    of_sums(6, 2, [WORD, 1, 0, 0, 0], 1, 0);
+    of_sums(7, 2, [1, WORD, 0, 0, 0], 1, 0);
+    of_sums(8, 2, [WORD, WORD, WORD, WORD, WORD], 1, 0);
+    of_sums(9, 1, [WORD, WORD, 0, 0, 0], MOST, MOST);
     of_sums(10, 0, [0, 0, 0, 0, 0], 0, 0);
     of_sums(11, 6, [0, 0, 0, 0, 0], 0, 0);
-    of_sums(12, 255, [FULL, FULL, FULL, FULL, FULL], LEAST, LEAST);
+    of_sums(12, 255, [WORD, WORD, WORD, WORD, WORD], LEAST, LEAST);
 }
 
 // Both expected sums from end to end.

@@ -7,11 +7,11 @@ use Rattle.report.proofs.head_line.Statement.{statement}
 use Rattle.report.proofs.head_line.Tie as tie
 
 returns : tie.Need-returns
-returns c = short 160 (c .before .before .args .line .now) _ (omega arith)
+returns c = short 200 (c .before .before .args .line .now) _ (omega arith)
 
 returns-2 : tie.Need-returns-2
 unfolding tableHead
-returns-2 c = long 160 (c .before .before .before .before .before .before .before .args .line .now) _ _ _ 51 (omega arith) (omega arith) (c .before .before .put-text .ensures)
+returns-2 c = long 200 (c .before .before .before .before .before .before .before .args .line .now) _ _ _ 51 (omega arith) (omega arith) (c .before .before .put-text .ensures)
 
 pub head-line-spec : {M : Type 1} → statement M
 head-line-spec = tie.close (tie.spec returns (λ c. search needs) (λ c κs. search needs) (λ c. search needs) returns-2)

@@ -5,15 +5,13 @@ use Rattle.ltd_study.proofs.input.run_input.Statement.{statement}
 use Rattle.ltd_study.proofs.input.run_input.Tie as tie
 
 abbrev Inv-loop : tie.InvT-loop
-Inv-loop table thirtieths₀ closings₀ recoveries₀ deaths₀ weighted-thirtieths₀ weighted-closings₀ weighted-recoveries₀ weighted-deaths₀ run₀ block₀ turns₀ thirtieths closings recoveries deaths weighted-thirtieths weighted-closings weighted-recoveries weighted-deaths run block turns =
-    Unit {0}
+Inv-loop table sums₀ run₀ block₀ turns₀ sums run block turns = Unit {0}
 
 abbrev μ-loop : tie.MeasureT-loop
-μ-loop table thirtieths₀ closings₀ recoveries₀ deaths₀ weighted-thirtieths₀ weighted-closings₀ weighted-recoveries₀ weighted-deaths₀ run₀ block₀ turns₀ thirtieths closings recoveries deaths weighted-thirtieths weighted-closings weighted-recoveries weighted-deaths run block turns =
-    turns
+μ-loop table sums₀ run₀ block₀ turns₀ sums run block turns = turns
 
 pub run-input-spec : {M : Type 1} → statement M
 run-input-spec =
     tie.close
     (tie.spec Inv-loop μ-loop (λ c κs. search needs) (λ c. tt) (λ c κs. search needs) (λ c κs. search needs) (λ c κs. search needs)
-    (λ c. omega (arith, c .before .before .before .before .before .before .before .before .before .before .before .before .before .before .before .before .loop-test .taken)) (λ c. omega (arith, c .before .before .before .before .before .before .before .before .before .before .before .before .before .before .before .before .loop-test .taken)) (λ c. tt) (λ c κs. search needs) (λ c κs. search needs) (λ c. tt))
+    (λ c. omega (arith, c .before .before .before .before .before .before .before .before .before .loop-test .taken)) (λ c. omega (arith, c .before .before .before .before .before .before .before .before .before .loop-test .taken)) (λ c. tt) (λ c κs. search needs) (λ c κs. search needs) (λ c. tt))

@@ -8,7 +8,7 @@ use Rattle.ltd_study.proofs.output.print_run.Statement.{statement}
 use Rattle.ltd_study.proofs.output.print_run.Tie as tie
 
 abbrev Inv-loop : tie.InvT-loop
-Inv-loop run line₀ number₀ line number = (number ≤ 6) × (length line ≡ 160)
+Inv-loop run line₀ number₀ line number = (number ≤ 6) × (length line ≡ 200)
 
 abbrev μ-loop : tie.MeasureT-loop
 μ-loop run line₀ number₀ line number = 6 - number

@@ -14,19 +14,17 @@ returns c = let g = c .before .before .args in join-refused (g .self) (g .other)
 passed : (c : tie.Else1) → let g = c .before .before .args in Joins (g .self) (g .other)
 passed c = joins _ _ (sym (c .before .join-check .ensures) ∙ c .if1 .left)
 
-room-at : (c : tie.After-struct-known2) → let g = c .before .before .before .before .before .before .before .before .before .args in Joins (g .self) (g .other)
-room-at c = passed (c .before .before .before .before .before .before .before)
+add-t8 : tie.Need-add-t8
+add-t8 c = omega (arith, passed (c .before .before .before .before .before) .few)
 
-add-t10 : tie.Need-add-t10
-add-t10 c = omega (arith, room-at c .few)
+plus-each-requires : tie.Need-plus-each-requires
+plus-each-requires c κs = passed (c .before .before .before .before .before .before .before) .sums
 
 returns-2 : tie.Need-returns-2
 returns-2 c =
-    let e = c .before .before .before .before .before .before .before .before .before in
+    let e = c .before .before .before .before .before .before .before .before in
     let g = e .before .before .args in
-    join-taken (g .self) (g .other) _ (e .before .join-check .ensures) (e .if1 .left) _ _ (c .before .both-sums .ensures) (c .both-sums2 .ensures)
+    join-taken (g .self) (g .other) _ (e .before .join-check .ensures) (e .if1 .left) _ (c .plus-each .ensures)
 
 pub join-spec : {M : Type 1} → statement M
-join-spec =
-    tie.close
-    (tie.spec (λ c κs. search needs) returns add-t10 (λ c κs. room-at c .sums) (λ c κs. room-at (c .before) .weighted) returns-2)
+join-spec = tie.close (tie.spec (λ c κs. search needs) returns add-t8 plus-each-requires returns-2)

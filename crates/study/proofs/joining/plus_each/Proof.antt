@@ -3,24 +3,24 @@
 use Prim.Native.Nat.{ℕ, _-_, _≤_, _<_}
 use mathlib.Core.Path.{_≡_, refl, ap₂, _∙_}
 use native.Mathlib.Omega.{arith}
-use lib.ListN.{length, getD, length-set}
+use lib.ListN.{length, length-set}
 use lib.IntN.{ℤ, pos, natAbs, _+ℤ_}
 use mir.Syntax.{w64}
 use mir.Val.{SFits, toZ, ofZ}
 use mir.Facts.{toZ-ofZ}
 use Rattle.basics.proofs.Signed.{small-fits}
-use Rattle.basics.proofs.Tables.{within-at, filled-more}
-use Rattle.study.specs.Sums.{signedEach}
-use Rattle.study.proofs.Algebra.{signed-at, signed-is}
+use Rattle.basics.proofs.Tables.{filled-more}
+use Rattle.study.specs.Sums.{plus}
+use Rattle.study.proofs.Algebra.{at, each-at, each-is}
+use Rattle.study.proofs.InBounds.{within-high}
 use Rattle.study.proofs.joining.plus_each.Statement.{statement}
 use Rattle.study.proofs.joining.plus_each.Tie as tie
 
 abbrev Inv-loop : tie.InvT-loop
-Inv-loop a b sums₀ place₀ sums place =
-    (place ≤ 5) × (length sums ≡ 5) × ((i : ℕ) → i < place → getD sums i (pos 0) ≡ getD a i (pos 0) +ℤ getD b i (pos 0))
+Inv-loop a b sums₀ place₀ sums place = (place ≤ 80) × (length sums ≡ 80) × ((i : ℕ) → i < place → at sums i ≡ at a i +ℤ at b i)
 
 abbrev μ-loop : tie.MeasureT-loop
-μ-loop a b sums₀ place₀ sums place = 5 - place
+μ-loop a b sums₀ place₀ sums place = 80 - place
 
 -- the two numbers at `place`, and their sum in 64 bits
 module _ (c : tie.After-sums2 Inv-loop μ-loop) where
@@ -31,10 +31,10 @@ module _ (c : tie.After-sums2 Inv-loop μ-loop) where
   k = c .before .before .before .loop .place
 
   abbrev x : ℤ
-  x = getD (start .args .t1) k (pos 0)
+  x = at (start .args .a .now) k
 
   abbrev y : ℤ
-  y = getD (start .args .t2) k (pos 0)
+  y = at (start .args .b .now) k
 
   read-x : toZ w64 (ofZ w64 x) ≡ x
   read-x = toZ-ofZ (record { sfits = c .before .sums .given })
@@ -45,7 +45,7 @@ module _ (c : tie.After-sums2 Inv-loop μ-loop) where
   size : natAbs (x +ℤ y) ≤ 5400000000000000000
   size =
       let g = start .args in
-      rw (signed-at _+ℤ_ (g .t1) (g .t2) k (omega arith)) at (within-at 5400000000000000000 (signedEach _+ℤ_ (g .t1) (g .t2)) k (start .pre))
+      rw (each-at _+ℤ_ (g .a .now) (g .b .now) k (omega arith)) at (within-high (plus (g .a .now) (g .b .now)) (start .pre) k (omega arith))
 
   fits : SFits w64 (toZ w64 (ofZ w64 x) +ℤ toZ w64 (ofZ w64 y))
   fits = rw (read-x, read-y) (small-fits (x +ℤ y) (omega (arith, size)))
@@ -59,13 +59,13 @@ loop-again c =
     let a = m .loop .sums in (
       omega arith,
       length-set a (k c) _ ∙ m .loop .inv .1,
-      filled-more (λ i. getD (start c .args .t1) i (pos 0) +ℤ getD (start c .args .t2) i (pos 0)) (pos 0) a (k c) _ (omega arith) (m .loop .inv .2) (stored c),
+      filled-more (λ i. at (start c .args .a .now) i +ℤ at (start c .args .b .now) i) (pos 0) a (k c) _ (omega arith) (m .loop .inv .2) (stored c),
     )
 
 returns : tie.Need-returns Inv-loop μ-loop
 returns c =
     let m = c .before in
-    signed-is _+ℤ_ (m .before .args .t1) (m .before .args .t2) (m .loop .sums) (m .loop .inv .1) (λ i h. m .loop .inv .2 i (omega arith))
+    each-is _+ℤ_ (m .before .args .a .now) (m .before .args .b .now) (m .loop .sums) (m .loop .inv .1) (λ i h. m .loop .inv .2 i (omega arith))
 
 pub plus-each-spec : {M : Type 1} → statement M
 plus-each-spec =

@@ -10,7 +10,7 @@ use mir.Syntax.{w64}
 use mir.Val.{toZ}
 use mir.Facts.{toZ-ofZ}
 use Rattle.basics.proofs.Signed.{Small, read-back, result-fits, result-is}
-use Rattle.study.proofs.Bounds.{opposite-size}
+use Rattle.study.proofs.InBounds.{opposite-size}
 use Rattle.study.proofs.Joins.{lowest-size, lowest, highest-size, highest}
 use Rattle.study.proofs.joining.sum_within.Statement.{statement}
 use Rattle.study.proofs.joining.sum_within.Tie as tie

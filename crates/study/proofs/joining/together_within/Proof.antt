@@ -1,88 +1,94 @@
--- `study::joining::together_within` meets its contract: each call decides one list of the sums together.
+-- `study::joining::together_within` meets its contract. Invariant: the sums at the places before `place` are within their bounds. Measure: the places left.
 -- Assumes nothing.
-use mathlib.Core.Path.{_≡_, sym, _∙_}
-use mathlib.Core.Bool.{true}
+use Prim.Native.Nat.{ℕ, _-_, _≤_}
+use mathlib.Core.Path.{_≡_, refl, sym, _∙_}
+use mathlib.Core.Bool.{Bool, true}
+use mathlib.Core.List.{List}
 use native.Mathlib.Omega.{arith}
-use borrow.Author.Needs.{needs}
 use borrow.Author.Tests.{not-true, not-false}
-use Prim.Native.Nat.{_*_}
-use lib.IntN.{_+ℤ_}
-use Rattle.basics.specs.Tables.{allWithin}
-use Rattle.study.specs.Sums.{signedEach}
-use Rattle.study.proofs.Bounds.{thirtieths-beyond, recoveries-beyond, deaths-beyond, counts-decide}
-use Rattle.study.proofs.RoomBounds.{Left, within-left}
-use Rattle.study.proofs.Joins.{plus-within}
+use lib.Dec.{leb}
+use lib.IntN.{ℤ, natAbs, _+ℤ_}
+use mir.Syntax.{w64}
+use mir.Val.{toZ, ofZ}
+use mir.Facts.{toZ-ofZ}
+use Rattle.basics.specs.Tables.{everyPlace}
+use Rattle.basics.proofs.Tables.{every-at}
+use Rattle.study.specs.Sums.{columnBound}
+use Rattle.study.proofs.Algebra.{at}
+use Rattle.study.proofs.InBounds.{placeBound, within-size, every-more}
+use Rattle.study.proofs.Joins.{sum-beyond, sums-within}
 use Rattle.study.proofs.joining.together_within.Statement.{statement}
 use Rattle.study.proofs.joining.together_within.Tie as tie
 
--- each of the two, list by list
-module _ (c : tie.Start) where
-  one : Left (c .args .times) 0 (c .args .a)
-  one = within-left (c .args .times) (c .args .a) (c .pre .1 .0)
+-- the test of a place
+abbrev test : List ℤ → List ℤ → ℕ → Bool
+test a b i = leb (natAbs (at a i +ℤ at b i)) (placeBound columnBound i)
 
-  other : Left (c .args .times) 0 (c .args .b)
-  other = within-left (c .args .times) (c .args .b) (c .pre .1 .1)
+abbrev Inv-loop : tie.InvT-loop
+Inv-loop a b place₀ place = (place ≤ 80) × (everyPlace place (test a b) ≡ true)
 
--- what the calls before a place found
-thirtieths-good : (c : tie.Else1)
-    → let g = c .before .before .before .before .args in
-    allWithin (27000000000 * g .times) (signedEach _+ℤ_ (g .a .thirtieths) (g .b .thirtieths)) ≡ true
-thirtieths-good c = sym (c .before .sums-within .ensures) ∙ not-false _ (c .if1 .left)
+abbrev μ-loop : tie.MeasureT-loop
+μ-loop a b place₀ place = 80 - place
 
-recoveries-good : (c : tie.Else2)
-    → let g = c .before .before .before .before .before .before .before .before .args in
-    allWithin (27000000000000000 * g .times) (signedEach _+ℤ_ (g .a .recoveries) (g .b .recoveries)) ≡ true
-recoveries-good c = sym (c .before .sums-within2 .ensures) ∙ not-false _ (c .if2 .left)
+-- the two numbers at `place`
+module _ (c : tie.After-y Inv-loop μ-loop) where
+  abbrev start : tie.Start Inv-loop μ-loop
+  start = c .before .before .before .before
 
-deaths-good : (c : tie.Else3)
-    → let g = c .before .before .before .before .before .before .before .before .before .before .before .before .args in
-    allWithin (27000000000000000 * g .times) (signedEach _+ℤ_ (g .a .deaths) (g .b .deaths)) ≡ true
-deaths-good c = sym (c .before .sums-within3 .ensures) ∙ not-false _ (c .if3 .left)
+  abbrev k : ℕ
+  k = c .before .before .before .loop .place
 
-sums-within-requires : tie.Need-sums-within-requires
-sums-within-requires c κs = let s = c .before .before in (omega arith, (one s .thirtieths, other s .thirtieths))
+  abbrev x : ℤ
+  x = at (start .args .a .now) k
 
-returns : tie.Need-returns
-returns c =
-    let g = c .before .before .before .before .args in
-    thirtieths-beyond _ _ _ _ _ _ _ (sym (c .before .sums-within .ensures) ∙ not-true _ (c .if1 .taken)) ∙ plus-within (g .times) (g .a) (g .b)
+  abbrev y : ℤ
+  y = at (start .args .b .now) k
 
-sums-within-requires-2 : tie.Need-sums-within-requires-2
-sums-within-requires-2 c κs = let s = c .before .before .before .before .before .before in (omega arith, (one s .recoveries, other s .recoveries))
+  read-x : toZ w64 (ofZ w64 x) ≡ x
+  read-x = toZ-ofZ (record { sfits = c .before .x .given })
 
-returns-2 : tie.Need-returns-2
+  read-y : toZ w64 (ofZ w64 y) ≡ y
+  read-y = toZ-ofZ (record { sfits = c .y .given })
+
+sum-within-requires : tie.Need-sum-within-requires Inv-loop μ-loop
+sum-within-requires c κs =
+    let d = c .before in
+    let s = start d in (
+      c .bound-at .ensures .1,
+      (
+        rw (read-x d, c .bound-at .ensures .0) (within-size (s .args .a .now) (s .pre .0) (k d) (omega arith)),
+        rw (read-y d, c .bound-at .ensures .0) (within-size (s .args .b .now) (s .pre .1) (k d) (omega arith)),
+      ),
+    )
+
+-- what the call says of their sum
+tested : (c : tie.After-sum-within Inv-loop μ-loop)
+    → let d = c .before .before in c .sum-within .result ≡ test (start d .args .a .now) (start d .args .b .now) (k d)
+tested c =
+    let d = c .before .before in
+    rw (read-x d, read-y d, c .before .bound-at .ensures .0) at (c .sum-within .ensures)
+
+returns : tie.Need-returns Inv-loop μ-loop
+returns c = sum-beyond _ _ (k (c .before .before .before)) (omega arith) (sym (tested (c .before)) ∙ not-true _ (c .if1 .taken))
+
+loop-again : tie.Need-loop-again Inv-loop μ-loop
+loop-again c =
+    let d = c .before .before .before in
+    (omega arith, every-more (k d) _ (d .before .before .before .loop .inv .1) (sym (tested (c .before)) ∙ not-false _ (c .if1 .left)))
+
+returns-2 : tie.Need-returns-2 Inv-loop μ-loop
 returns-2 c =
-    let g = c .before .before .before .before .before .before .before .before .args in
-    recoveries-beyond _ _ _ _ _ _ _ (thirtieths-good (c .before .before .before .before)) (sym (c .before .sums-within2 .ensures) ∙ not-true _ (c .if2 .taken))
-    ∙ plus-within (g .times) (g .a) (g .b)
+    let l = c .before .loop in
+    let s = c .before .before in
+    let e : l .place ≡ 80 = omega arith in
+    sums-within (s .args .a .now) (s .args .b .now) (s .pre .0) (s .pre .1) (every-at 80 (test (s .args .a .now) (s .args .b .now)) (rw e at (l .inv .1)))
 
-sums-within-requires-3 : tie.Need-sums-within-requires-3
-sums-within-requires-3 c κs = let s = c .before .before .before .before .before .before .before .before .before .before in (omega arith, (one s .deaths, other s .deaths))
-
-returns-3 : tie.Need-returns-3
-returns-3 c =
-    let d = c .before .before .before .before in
-    let g = d .before .before .before .before .before .before .before .before .args in
-    deaths-beyond _ _ _ _ _ _ _ (thirtieths-good (d .before .before .before .before)) (recoveries-good d)
-    (sym (c .before .sums-within3 .ensures) ∙ not-true _ (c .if3 .taken))
-    ∙ plus-within (g .times) (g .a) (g .b)
-
-counts-within-requires : tie.Need-counts-within-requires
-counts-within-requires c κs =
-    let s = c .before .before .before .before .before .before .before .before .before .before .before .before .before .before in
-    (omega arith, (one s .closings, other s .closings))
-
-returns-4 : tie.Need-returns-4
-returns-4 c =
-    let e = c .before .before .before in
-    let d = e .before .before .before .before in
-    let g = d .before .before .before .before .before .before .before .before .args in
-    c .counts-within .ensures
-    ∙ counts-decide _ _ _ _ _ _ _ (thirtieths-good (d .before .before .before .before)) (recoveries-good d) (deaths-good e)
-    ∙ plus-within (g .times) (g .a) (g .b)
+loop-holds : tie.Need-loop-holds Inv-loop μ-loop
+unfolding everyPlace
+loop-holds c = (omega arith, refl)
 
 pub together-within-spec : {M : Type 1} → statement M
 together-within-spec =
     tie.close
-    (tie.spec (λ c. search needs) sums-within-requires returns (λ c. search needs) sums-within-requires-2 returns-2 sums-within-requires-3 returns-3
-    (λ c. search needs) counts-within-requires returns-4)
+    (tie.spec Inv-loop μ-loop loop-holds (λ c. omega arith) (λ c. omega arith) (λ c. omega arith) (λ c. omega arith) (λ c κs. omega arith)
+    sum-within-requires returns (λ c. omega arith) (λ c. omega arith) loop-again returns-2)

@@ -35,4 +35,4 @@ returns-5 c =
 pub known-factor-spec : {M : Type 1} → statement M
 known-factor-spec =
     tie.close
-    (tie.spec returns returns-2 returns-3 returns-4 (λ c κs. search needs) returns-5)
+    (tie.spec returns returns-2 (λ c. search needs) returns-3 returns-4 (λ c κs. search needs) returns-5)

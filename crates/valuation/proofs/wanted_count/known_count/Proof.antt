@@ -26,4 +26,4 @@ returns-3 c = under _ _ _ (good (c .before .before)) (c .before .first-reaching 
 pub known-count-spec : {M : Type 1} → statement M
 known-count-spec =
     tie.close
-    (tie.spec (λ c κs. search needs) returns (λ c κs. search needs) returns-2 (λ c. search needs) returns-3)
+    (tie.spec (λ c κs. search needs) returns (λ c κs. search needs) (λ c. search needs) returns-2 (λ c. search needs) returns-3)
