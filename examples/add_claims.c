@@ -1,14 +1,15 @@
-/* Adds the claims of a claim file to a study one by one and prints the sums of the five groups, one line a group: group, thirtieths, the five
+/* cc -std=c99 -Iinclude -o add_claims examples/add_claims.c lib/libltd_study.a
+
+   Compiled so in the folder of an unpacked release. With the shared library: -Llib -lltd_study -Wl,-rpath,'$ORIGIN/lib' at the end. In a
+   clone: target/staticlib/libc_file.a target/staticlib/libc_abi.a at the end.
+
+   Adds the claims of a claim file to a study one by one and prints the sums of the five groups, one line a group: group, thirtieths, the five
    closing counts, expected recoveries, expected deaths.
    Usage: add_claims CLAIMS RATES. Status 1 if something is refused, 2 if a file can't be read or the output can't be written. */
 #include "ltd_study.h"
 #include <inttypes.h>
 #include <stdio.h>
 
-#define BLOCK 512
-#define STUDY 83
-/* What an answer of 64 bits has above the number refused. */
-#define REFUSED ((uint64_t)1 << 32)
 /* Of 1,024 cells, the most that a table may have. */
 #define RATES (1024 * 958)
 
@@ -48,7 +49,7 @@ static int open_study(const uint8_t *block, size_t length, int64_t *study) {
     uint32_t dates[2];
     uint8_t refused = ltd_read_window(block, length, dates, 2);
     if (refused == 0) {
-        refused = ltd_open(dates[0], dates[1], study, STUDY);
+        refused = ltd_open(dates[0], dates[1], study, LTD_STUDY_NUMBERS);
     }
     if (refused != 0) {
         fprintf(stderr, "refused %d block 0 claim 0\n", refused);
@@ -59,16 +60,16 @@ static int open_study(const uint8_t *block, size_t length, int64_t *study) {
 
 /* Adds the claims of a block. Answers 0, or 1 with a message. */
 static int add_block(const uint8_t *block, size_t length, uint32_t number, size_t rates_count, int64_t *study) {
-    uint8_t claims[15 * sizeof(struct ltd_claim)];
+    uint8_t claims[15 * LTD_CLAIM_BYTES];
     uint64_t count = ltd_read_block(block, length, number, claims, sizeof claims);
     uint64_t place;
-    if (count >= REFUSED) {
-        fprintf(stderr, "refused %" PRIu64 " block %" PRIu32 " claim 0\n", count - REFUSED, number);
+    if (count >= LTD_REFUSAL_BASE) {
+        fprintf(stderr, "refused %" PRIu64 " block %" PRIu32 " claim 0\n", count - LTD_REFUSAL_BASE, number);
         return 1;
     }
     for (place = 1; place <= count; place++) {
-        const uint8_t *record = claims + (place - 1) * sizeof(struct ltd_claim);
-        uint8_t refused = ltd_add(study, STUDY, record, sizeof(struct ltd_claim), rates, rates_count);
+        const uint8_t *record = claims + (place - 1) * LTD_CLAIM_BYTES;
+        uint8_t refused = ltd_add(study, LTD_STUDY_NUMBERS, record, LTD_CLAIM_BYTES, rates, rates_count);
         if (refused != 0) {
             fprintf(stderr, "refused %d block %" PRIu32 " claim %" PRIu64 ", claim number %" PRIu32 "\n", refused, number, place, four_bytes(record));
             return 1;
@@ -79,7 +80,7 @@ static int add_block(const uint8_t *block, size_t length, uint32_t number, size_
 
 /* The study of a claim file. Answers 0, or 1 or 2 with a message. */
 static int add_file(const char *name, size_t rates_count, int64_t *study) {
-    uint8_t block[BLOCK];
+    uint8_t block[LTD_BLOCK_BYTES];
     uint32_t number = 0;
     int status = 0;
     size_t length;
@@ -89,7 +90,7 @@ static int add_file(const char *name, size_t rates_count, int64_t *study) {
         return 2;
     }
     /* A part block at the end is refused by its length, and so is block 0 of an empty file. */
-    while (status == 0 && ((length = fread(block, 1, BLOCK, file)) > 0 || number == 0)) {
+    while (status == 0 && ((length = fread(block, 1, LTD_BLOCK_BYTES, file)) > 0 || number == 0)) {
         if (ferror(file)) {
             break;
         }
@@ -105,7 +106,7 @@ static int add_file(const char *name, size_t rates_count, int64_t *study) {
 }
 
 int main(int argc, char **argv) {
-    int64_t study[STUDY];
+    int64_t study[LTD_STUDY_NUMBERS];
     size_t rates_count;
     int status, group, i;
     if (argc != 3) {

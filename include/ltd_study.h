@@ -1,15 +1,72 @@
-/* The engine's calls for C and Rust. A slice is a pointer and a length in elements. No call keeps a pointer or writes outside the lent lists.
-   A null list has length 0. A list that is written may overlap no other list of the call; a list too long is taken, its rest untouched.
+/* The engine's calls for C, C++ and Rust, by task:
+
+     the study of a whole claim file     ltd_file_study; where later records correct earlier ones, ltd_corrected_study;
+                                         many files with one table, ltd_prepare once, then ltd_prepared_file_study
+     a study claim by claim              ltd_open, ltd_add; a claim taken back, ltd_withdraw; studies of one window joined, ltd_join;
+                                         with a prepared table, ltd_prepared_add and ltd_prepared_withdraw
+     one claim's months                  ltd_listing
+     a claim file's blocks               ltd_read_window, ltd_read_block; ltd_write_window, ltd_write_block
+     factors and rates                   ltd_factor (z, m, T), ltd_wanted_count, ltd_valuation_rate
+     reserves                            ltd_reserve_factor, ltd_reserve_limit
+     the small company rule              ltd_small_company
+     a load that anyone can rebuild      ltd_load_claim
+     the version linked                  ltd_version
+
+   Link with libltd_study.so or libltd_study.a of a release; examples/add_claims.c begins with its compile line. A clone's target/staticlib has
+   the same calls in two libraries, of which neither needs the other: libc_file.a has ltd_file_study, ltd_prepare and
+   ltd_prepared_file_study, libc_abi.a all others.
+
+   A slice is a pointer and a length in elements. No call keeps a pointer or writes outside the lent lists. A null list has length 0.
+   A list that is written may overlap no other list of the call; a list too long is taken, its rest untouched.
    A date is the claim file's four bytes as one number, low byte first: year + 65,536 × month + 16,777,216 × day.
    A claim is its record, the 32 bytes of struct ltd_claim; a longer list is taken by its first 32.
-   A refusal is the number of document 01's table or of document 02's requests. 255 says that a lent list has not the length or form asked
-   for, before any numbered check; nothing is written then.
-   Link with -lc_file -lc_abi: libc_file.a has ltd_file_study, ltd_prepare and ltd_prepared_file_study, libc_abi.a all other calls. Neither needs
-   the other. */
+   A refusal is the number of document 01's table or of document 02's requests: LTD_REFUSED_.. below. 255 says that a lent list has not the
+   length or form asked for, before any numbered check; nothing is written then. */
 #ifndef LTD_STUDY_H
 #define LTD_STUDY_H
 #include <stddef.h>
 #include <stdint.h>
+
+/* The version of this header. A library has all of its calls if the version that its ltd_version answers has the same major and no lower
+   minor. */
+#define LTD_VERSION_MAJOR 1
+#define LTD_VERSION_MINOR 0
+#define LTD_VERSION_PATCH 0
+#define LTD_VERSION (65536 * LTD_VERSION_MAJOR + 256 * LTD_VERSION_MINOR + LTD_VERSION_PATCH)
+
+/* Lengths: the numbers of a study, and of a file's study with what was refused and where; the bytes of a block and of a claim's record. */
+#define LTD_STUDY_NUMBERS 83
+#define LTD_FILE_STUDY_NUMBERS 86
+#define LTD_BLOCK_BYTES 512
+#define LTD_CLAIM_BYTES 32
+
+/* An answer of 64 bits that is not below this is this + the number refused. */
+#define LTD_REFUSAL_BASE ((uint64_t)1 << 32)
+
+/* What is refused: 1 to 13 are document 01's, 14 to 20 document 02's. */
+#define LTD_REFUSED_WINDOW 1
+#define LTD_REFUSED_DATE 2
+#define LTD_REFUSED_STATUS 3
+#define LTD_REFUSED_SEQUENCE 4
+#define LTD_REFUSED_SHORT_ELIMINATION 5
+#define LTD_REFUSED_RATE_TABLE 6
+#define LTD_REFUSED_CELL 7
+#define LTD_REFUSED_RATE 8
+#define LTD_REFUSED_FULL 9
+#define LTD_REFUSED_SHORT_LIST 10
+#define LTD_REFUSED_BLOCK 11
+#define LTD_REFUSED_VALUATION 12
+#define LTD_REFUSED_DISCOUNT 13
+#define LTD_REFUSED_TOO_MANY_RECORDS 14
+#define LTD_REFUSED_OTHER_WINDOW 15
+#define LTD_REFUSED_BENEFIT 16
+#define LTD_REFUSED_OPEN_CLAIMS 17
+#define LTD_REFUSED_WITHDRAWAL 18
+#define LTD_REFUSED_NO_COUNT 19
+#define LTD_REFUSED_LOAD 20
+/* A lent list that has not the length or form asked for. */
+#define LTD_BAD_FORM 255
+
 #ifdef __cplusplus
 extern "C" {
 #endif
@@ -34,20 +91,26 @@ struct ltd_claim {
    the study of 1950-01-01 alone. 255 if study is shorter than 83; nothing is written then. */
 uint8_t ltd_open(uint32_t first, uint32_t last, int64_t *study, size_t study_len);
 
-/* Adds a claim, the 32 bytes of its record, to a study. Answers 0 or the number refused (1 to 9, 16), study untouched. 255, study untouched,
-   if study is shorter than 83 or has days, claims taken, a closing count or a weighted closing sum outside 0 to 2^32 - 1, or if claim has
-   fewer than 32 bytes or one of its bytes 25 to 31 is not zero. */
+/* Adds a claim, the 32 bytes of its record, to a study. Answers 0 or the number refused (1 to 9, 16), study untouched. A study may hold any
+   numbers: a day outside 0 to 54,786 is refused 1, claims taken outside 0 to 499,999 and every count or sum outside its bounds 9, each at
+   its place in the order of the checks. The bounds of a closing count are 0 and 500,000, those of a weighted closing sum 0 and 100,000,000.
+   255, study untouched, if study is shorter than 83, or if claim has fewer than 32 bytes or one of its bytes 25 to 31 is not zero. */
 uint8_t ltd_add(int64_t *study, size_t study_len, const uint8_t *claim, size_t claim_len, const uint32_t *rates, size_t rates_len);
 
 /* Withdraws a claim that was added before, the 32 bytes of its record, from a study. Answers 0 or the number refused, study untouched: as
-   ltd_add, save that exactly 500,000 claims may be taken; then 18 if no claim is taken, or if a closing count or a weighted closing sum
-   would fall below zero. 255, study untouched, as ltd_add. */
+   ltd_add, any numbers in the study included, save that exactly 500,000 claims may be taken; then 18 if no claim is taken, or if a closing
+   count or a weighted closing sum would fall below zero. 255, study untouched, as ltd_add. */
 uint8_t ltd_withdraw(int64_t *study, size_t study_len, const uint8_t *claim, size_t claim_len, const uint32_t *rates, size_t rates_len);
 
+/* As ltd_add and ltd_withdraw, with a list that ltd_prepare made of rates: the same answers and the same study as with these rates, and
+   faster. Refusal 6 says that the table is not a prepared one. */
+uint8_t ltd_prepared_add(int64_t *study, size_t study_len, const uint8_t *claim, size_t claim_len, const uint32_t *table, size_t table_len);
+uint8_t ltd_prepared_withdraw(int64_t *study, size_t study_len, const uint8_t *claim, size_t claim_len, const uint32_t *table, size_t table_len);
+
 /* Joins another study of the same window to a study: claims taken and every sum of either set are added. Answers 0 or the number refused,
-   study untouched: 1 if the window of either is bad, 15 if the windows differ, 9 if together they have over 500,000 claims, or if a sum or
-   count is beyond its bounds in either or in both together. 255, study untouched, if either list is shorter than 83 or has days, claims
-   taken, a closing count or a weighted closing sum outside 0 to 2^32 - 1. */
+   study untouched: 1 if the window of either is bad, 15 if the windows differ, 9 if together they have over 500,000 claims, or if claims
+   taken, a sum or a count is outside its bounds in either or in both together. Either study may hold any numbers, as for ltd_add. 255, study
+   untouched, if either list is shorter than 83. */
 uint8_t ltd_join(int64_t *study, size_t study_len, const int64_t *other, size_t other_len);
 
 /* The dates of block 0's window into dates (2 numbers). Answers 0 or 11, dates untouched. 255 if dates is shorter than 2. */
@@ -127,6 +190,9 @@ uint8_t ltd_write_block(uint32_t number, const uint8_t *claims, size_t claims_le
 
 /* Writes block 0 with a window's dates into block (512 bytes). Answers 0 or 11. */
 uint8_t ltd_write_window(uint32_t first, uint32_t last, uint8_t *block, size_t block_len);
+
+/* The version of the engine that is linked: LTD_VERSION of its own header. */
+uint32_t ltd_version(void);
 #ifdef __cplusplus
 }
 #endif

@@ -1,12 +1,13 @@
 -- Which tests lead to which answer of `ltd_join`, and to what in the list.
 -- Assumes nothing.
-use Prim.Native.Nat.{ℕ}
+use Prim.Native.Nat.{ℕ, _≤_, _<_}
 use mathlib.Core.Path.{_≡_, sym, ap, _∙_}
-use mathlib.Core.Bool.{true, false, _&&_, and-false}
+use mathlib.Core.Bool.{_&&_, and-false}
 use mathlib.Core.List.{List}
 use lib.IntN.{ℤ}
+use lib.ListN.{length}
 use lib.Seq.{sets}
-use borrow.Author.Tests.{eq-eqb, ne-eqb}
+use borrow.Author.Tests.{eq-eqb, ne-eqb, le-leb, lt-leb}
 use Rattle.study.specs.declared.Answer.{Answer}
 use Rattle.study.specs.Joining.{joined}
 use Rattle.basics.proofs.Tests.{tests}
@@ -19,18 +20,18 @@ module _ (xs ys : List ℤ) where
   unfolding joinAfter
   left n e h = (e, rw (ne-eqb (joinAnswer xs ys) 0 (λ z. h (e ∙ z))))
 
-  pub no-study : studyForm xs ≡ false → (255 ≡ joinAnswer xs ys) × (xs ≡ joinAfter xs ys)
-  unfolding joinAnswer
-  no-study f = left 255 (rw f) (λ z. omega tests)
+  pub no-study : length xs < 83 → (255 ≡ joinAnswer xs ys) × (xs ≡ joinAfter xs ys)
+  unfolding joinAnswer studyForm
+  no-study f = left 255 (rw (lt-leb 83 (length xs) f)) (λ z. omega tests)
 
-  pub no-other : studyForm ys ≡ false → (255 ≡ joinAnswer xs ys) × (xs ≡ joinAfter xs ys)
-  unfolding joinAnswer
-  no-other f = left 255 (rw (f, and-false)) (λ z. omega tests)
+  pub no-other : length ys < 83 → (255 ≡ joinAnswer xs ys) × (xs ≡ joinAfter xs ys)
+  unfolding joinAnswer studyForm
+  no-other f = left 255 (rw (lt-leb 83 (length ys) f, and-false)) (λ z. omega tests)
 
-  module _ (f : studyForm xs ≡ true) (g : studyForm ys ≡ true) (a : Answer) (e : a ≡ joined (studyIn xs) (studyIn ys)) where
+  module _ (f : 83 ≤ length xs) (g : 83 ≤ length ys) (a : Answer) (e : a ≡ joined (studyIn xs) (studyIn ys)) where
     answer-is : a .refused ≡ joinAnswer xs ys
-    unfolding joinAnswer
-    answer-is = ap (λ (b : Answer). b .refused) e ∙ rw (f, g)
+    unfolding joinAnswer studyForm
+    answer-is = ap (λ (b : Answer). b .refused) e ∙ rw (le-leb 83 (length xs) f, le-leb 83 (length ys) g)
 
     pub refused : (a .refused ≡ 0 → ⊥) → (a .refused ≡ joinAnswer xs ys) × (xs ≡ joinAfter xs ys)
     refused h = left (a .refused) answer-is h

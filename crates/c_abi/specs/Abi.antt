@@ -5,6 +5,7 @@ use mathlib.Core.List.{List, [], _∷_}
 use lib.ListN.{length}
 use lib.Seq.{sets}
 use lib.Dec.{leb, eqb}
+use Rattle.basics.specs.Limits.{no-form}
 use Rattle.calendar.specs.declared.Date.{Date}
 use Rattle.basics.specs.Pick.{pick}
 use Rattle.valuation.specs.declared.MaybeRate.{MaybeRate}
@@ -57,7 +58,7 @@ reserveStored old (reserved.Refused n) = old
 
 -- 255 too where T has not five numbers
 unfoldable pub reserveAnswered : List ℕ → List Float → Reserve → ℕ
-reserveAnswered t old r = pick (eqb (length t) 5) (answered 1 old (reserveNumber r)) 255
+reserveAnswered t old r = pick (eqb (length t) 5) (answered 1 old (reserveNumber r)) no-form
 
 unfoldable pub reserveAfter : List ℕ → List Float → Reserve → List Float
 reserveAfter t old r = pick (eqb (length t) 5) (stored 1 old (reserveStored old r)) old
@@ -67,7 +68,7 @@ unfoldable pub limitLent : List ℕ → List ℕ → List Float → Bool
 limitLent t out totals = eqb (length t) 5 && leb 5 (length out) && leb 2 (length totals)
 
 unfoldable pub limitAnswered : List ℕ → List ℕ → List Float → LimitAnswer → ℕ
-limitAnswered t out totals a = pick (limitLent t out totals) (a .refused) 255
+limitAnswered t out totals a = pick (limitLent t out totals) (a .refused) no-form
 
 -- the set of T and both totals, the given one first, or both lists as they were
 unfoldable pub limitSet : List ℕ → List ℕ → List Float → LimitAnswer → List ℕ

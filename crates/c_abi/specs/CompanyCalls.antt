@@ -5,6 +5,7 @@ use mathlib.Core.List.{List, _∷_}
 use lib.ListN.{length}
 use lib.Seq.{sets}
 use lib.Dec.{leb, eqb}
+use Rattle.basics.specs.Limits.{no-form}
 use Rattle.basics.specs.Pick.{pick}
 use Rattle.small_company.specs.declared.CompanyAnswer.{CompanyAnswer}
 
@@ -13,7 +14,7 @@ unfoldable pub companyLent : List ℕ → List ℕ → List ℕ → Bool
 companyLent new old out = eqb (length new) 5 && eqb (length old) 5 && leb 9 (length out)
 
 unfoldable pub companyAnswered : List ℕ → List ℕ → List ℕ → CompanyAnswer → ℕ
-companyAnswered new old out a = pick (companyLent new old out) (a .refused) 255
+companyAnswered new old out a = pick (companyLent new old out) (a .refused) no-form
 
 -- exempt (1 or 0), the recent and the earlier claims, the group and five T, or the list as it was
 unfoldable pub companyNumbers : CompanyAnswer → List ℕ

@@ -5,3 +5,4 @@ pub mod RecordCalls
 pub mod CompanyCalls
 pub mod LoadCalls
 pub mod CorrectedCalls
+pub mod Version

@@ -5,6 +5,7 @@ use mathlib.Core.List.{List, [], _∷_}
 use lib.ListN.{length}
 use lib.Seq.{sets}
 use lib.Dec.{leb}
+use Rattle.basics.specs.Limits.{no-form}
 use Rattle.basics.specs.Pick.{pick}
 use Rattle.claim_file.specs.Record.{claimBytes}
 use Rattle.load.specs.declared.MaybeLoaded.{MaybeLoaded}
@@ -19,7 +20,7 @@ stepNumber (Loaded step) = 0
 stepNumber (Refused n) = n
 
 unfoldable pub stepAnswered : List ℕ → List ℕ → MaybeLoaded → ℕ
-stepAnswered x-out claim m = pick (stepLent x-out claim) (stepNumber m) 255
+stepAnswered x-out claim m = pick (stepLent x-out claim) (stepNumber m) no-form
 
 -- the x reached in the first place, and the record from the first byte on, or the lists as they were
 unfoldable pub reachedStored : List ℕ → MaybeLoaded → List ℕ

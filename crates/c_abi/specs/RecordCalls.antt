@@ -6,6 +6,7 @@ use lib.ListN.{length, set, take, replicate}
 use lib.Seq.{sets}
 use lib.Dec.{leb, ltb, eqb}
 use lib.IntN.{ℤ}
+use Rattle.basics.specs.Limits.{no-form}
 use Rattle.basics.specs.Pick.{pick}
 use Rattle.basics.specs.Checks.{check, _then_, refuse-block}
 use Rattle.calendar.specs.declared.Date.{Date}
@@ -30,7 +31,7 @@ listedNumber (listed.Refused n) = refusedNumber n
 
 unfoldable pub listingAnswer : Date → Date → MaybeClaim → ℕ → ℕ
 listingAnswer b e (Found c) room = listedNumber (listingOf b e c room)
-listingAnswer b e NoRecord room = refusedNumber 255
+listingAnswer b e NoRecord room = refusedNumber no-form
 
 unfoldable pub listingAfter : Date → Date → MaybeClaim → List ℤ → List ℤ
 listingAfter b e (Found c) old = listAfter b e c old
@@ -44,7 +45,7 @@ unfoldable pub readStored : List ℕ → BlockRead → List ℕ
 readStored old r = pick (eqb (r .refused) 0) (sets old 0 (allClaimBytes (take (r .block .count) (r .block .claims)))) old
 
 unfoldable pub readAnswer : ℕ → List ℕ → List ℕ → ℕ
-readAnswer due block old = pick (ltb (length old) 480) (refusedNumber 255) (readNumber (readOf due block))
+readAnswer due block old = pick (ltb (length old) 480) (refusedNumber no-form) (readNumber (readOf due block))
 
 unfoldable pub readAfter : ℕ → List ℕ → List ℕ → List ℕ
 readAfter due block old = pick (ltb (length old) 480) old (readStored old (readOf due block))

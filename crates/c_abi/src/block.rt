@@ -12,6 +12,7 @@ ghost use Rattle.study_list.specs.Lent.{answered, stored};
 ghost use Rattle.c_abi.specs.Abi.{dateIn, dateNumber};
 ghost use Rattle.c_abi.specs.RecordCalls.{readAnswer, readAfter, isRecord, allRecords, claimOr, placed, writeAnswer, writeAfter, windowNumber, datesStored};
 use crate::listing::date_in;
+use basics::limits::NO_FORM;
 use basics::refusal;
 use calendar::Date;
 use claim_file::Block;
@@ -65,7 +66,7 @@ pub extern "C" fn ltd_read_window(block: &[u8], dates: &mut [u32]) -> u8
     ensures { λ _. ⌜ now (dates .exit) ≡ stored 2 (now (dates .entry)) (datesStored (now (dates .entry)) (windowOf (now (block .entry)))) ⌝ }
 {
     if dates.len() < 2 {
-        return 255;
+        return NO_FORM;
     }
     match claim_file::blocks::read_window(block) {
         MaybeDates::Known(window) => {

@@ -8,7 +8,9 @@ ghost use Rattle.small_company.specs.SmallCompany.{companyOf};
 ghost use Rattle.c_abi.specs.Abi.{dateIn};
 ghost use Rattle.c_abi.specs.CompanyCalls.{companyAnswered, companyNumbers, companyAfter};
 use crate::factors::five;
+use crate::factors::put_five;
 use crate::listing::date_in;
+use basics::limits::NO_FORM;
 use small_company::CompanyAnswer;
 
 // Stores what a carrier is told from the first place on.
@@ -21,11 +23,7 @@ fn put_company(answer: CompanyAnswer, out: &mut [u64])
     out[1] = answer.recent;
     out[2] = answer.earlier;
     out[3] = answer.group as u64;
-    out[4] = t[0];
-    out[5] = t[1];
-    out[6] = t[2];
-    out[7] = t[3];
-    out[8] = t[4];
+    put_five(t, 4, out);
 }
 
 // Whether a carrier is exempt, both counts, the first group that moved far, and five T.
@@ -41,13 +39,13 @@ pub extern "C" fn ltd_small_company(
     ensures { λ _. ⌜ now (out .exit) ≡ companyAfter (now («new_t» .entry)) (now («old_t» .entry)) (now (out .entry)) (companyOf (dateIn date) (now (claims .entry)) (now («new_t» .entry)) (now («old_t» .entry))) ⌝ }
 {
     if new_t.len() != 5 {
-        return 255;
+        return NO_FORM;
     }
     if old_t.len() != 5 {
-        return 255;
+        return NO_FORM;
     }
     if out.len() < 9 {
-        return 255;
+        return NO_FORM;
     }
     let answer = small_company::small_company(date_in(date), claims, five(new_t), five(old_t));
     if answer.refused != 0 {

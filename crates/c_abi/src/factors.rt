@@ -4,7 +4,7 @@ ghost use denote.Ref.{now};
 ghost use Rattle.valuation.specs.Rate.{rateIn};
 ghost use Rattle.valuation.specs.Factor.{factorIn};
 ghost use Rattle.valuation.specs.Reserve.{reserveIn};
-ghost use Prim.Native.Nat.{_≤_};
+ghost use Prim.Native.Nat.{_+_, _≤_};
 ghost use lib.ListN.{length};
 ghost use lib.Seq.{sets};
 ghost use Rattle.valuation.specs.ReserveLimit.{limitOf};
@@ -12,6 +12,7 @@ ghost use Rattle.valuation.specs.WantedCount.{wantedIn};
 ghost use Rattle.study_list.specs.Lent.{answered, stored};
 ghost use Rattle.c_abi.specs.Abi.{rateNumber, countNumber, factorNumber, factorStored, reserveAnswered, reserveAfter, limitAnswered, limitSet, limitTotals};
 use basics::Duration;
+use basics::limits::NO_FORM;
 use rates::Cell;
 use valuation::MaybeCount;
 use valuation::MaybeFactor;
@@ -47,7 +48,7 @@ pub extern "C" fn ltd_factor(group: u8, terminations: u32, expected: i64, out: &
     ensures { λ _. ⌜ now (out .exit) ≡ stored 3 (now (out .entry)) (factorStored (now (out .entry)) (factorIn group terminations expected)) ⌝ }
 {
     if out.len() < 3 {
-        return 255;
+        return NO_FORM;
     }
     match valuation::factor::factor(group, terminations, expected) {
         MaybeFactor::Known(factor) => {
@@ -83,10 +84,10 @@ pub extern "C" fn ltd_reserve_factor(
     ensures { λ _. ⌜ now (out .exit) ≡ reserveAfter (now (t .entry)) (now (out .entry)) (reserveIn (now (rates .entry)) cell first (now (t .entry)) months v) ⌝ }
 {
     if t.len() != 5 {
-        return 255;
+        return NO_FORM;
     }
     if out.len() < 1 {
-        return 255;
+        return NO_FORM;
     }
     let first = Duration(first);
     match valuation::reserve_factor::reserve_factor(rates, Cell(cell), first, five(t), months, v) {
@@ -98,16 +99,16 @@ pub extern "C" fn ltd_reserve_factor(
     }
 }
 
-// Stores five T from the first place on.
-fn put_five(t: [u64; 5], out: &mut [u64])
-    requires { ⌜ 5 ≤ length (now out) ⌝ }
-    ensures { λ _. ⌜ now (out .exit) ≡ sets (now (out .entry)) 0 t ⌝ }
+// Stores five T from a place on.
+pub(crate) fn put_five(t: [u64; 5], at: usize, out: &mut [u64])
+    requires { ⌜ at + 5 ≤ length (now out) ⌝ }
+    ensures { λ _. ⌜ now (out .exit) ≡ sets (now (out .entry)) at t ⌝ }
 {
-    out[0] = t[0];
-    out[1] = t[1];
-    out[2] = t[2];
-    out[3] = t[3];
-    out[4] = t[4];
+    out[at] = t[0];
+    out[at + 1] = t[1];
+    out[at + 2] = t[2];
+    out[at + 3] = t[3];
+    out[at + 4] = t[4];
 }
 
 // The set of T that the limit on reserves allows, and both totals: with the given T, and with T replaced.
@@ -126,13 +127,13 @@ pub extern "C" fn ltd_reserve_limit(
     ensures { λ _. ⌜ now (totals .exit) ≡ limitTotals (now (t .entry)) (now («t_out» .entry)) (now (totals .entry)) (limitOf (now (rates .entry)) (now («open_claims» .entry)) (now (t .entry)) «group_3_count» v) ⌝ }
 {
     if t.len() != 5 {
-        return 255;
+        return NO_FORM;
     }
     if t_out.len() < 5 {
-        return 255;
+        return NO_FORM;
     }
     if totals.len() < 2 {
-        return 255;
+        return NO_FORM;
     }
     let answer = valuation::reserve_limit::reserve_limit(
         rates,
@@ -145,7 +146,7 @@ pub extern "C" fn ltd_reserve_limit(
         return answer.refused;
     }
     let chosen = answer.t;
-    put_five(chosen, t_out);
+    put_five(chosen, 0, t_out);
     totals[0] = answer.given;
     totals[1] = answer.replaced;
     0

@@ -6,3 +6,10 @@ mod factors;
 mod listing;
 mod loads;
 mod study_calls;
+mod version;
+
+// What a call makes of a claim and a study.
+pub enum Change {
+    Add,
+    Withdraw,
+}

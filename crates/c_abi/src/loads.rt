@@ -3,6 +3,7 @@ ghost use mathlib.Core.Path.{_≡_};
 ghost use denote.Ref.{now};
 ghost use Rattle.load.specs.Load.{loadStep};
 ghost use Rattle.c_abi.specs.LoadCalls.{stepAnswered, reachedAfter, recordAfter};
+use basics::limits::NO_FORM;
 use claim_file::record::write_record;
 use load::MaybeLoaded;
 
@@ -20,10 +21,10 @@ pub extern "C" fn ltd_load_claim(
     ensures { λ _. ⌜ now (claim .exit) ≡ recordAfter (now («x_out» .entry)) (now (claim .entry)) (loadStep x size number) ⌝ }
 {
     if x_out.len() < 1 {
-        return 255;
+        return NO_FORM;
     }
     if claim.len() < 32 {
-        return 255;
+        return NO_FORM;
     }
     match load::load_claim(x, size, number) {
         MaybeLoaded::Loaded(step) => {

@@ -1,147 +1,60 @@
-// The calls that open a study, add a claim to it, withdraw one, and join two studies. A study is a lent list of 83 numbers, a claim the record of a claim file.
+// The calls that open a study, add a claim to it or withdraw one, with plain rates or a prepared table, and join two studies. A study is a lent list of 83 numbers, a claim the record of a claim file.
 ghost use mathlib.Core.Path.{_≡_};
-ghost use mathlib.Core.Bool.{true};
-ghost use Prim.Native.Nat.{_+_, _*_, _≤_};
+ghost use Prim.Native.Nat.{_≤_};
 ghost use denote.Ref.{now};
-ghost use lib.IntN.{pos, natAbs};
-ghost use lib.ListN.{length, getD};
+ghost use lib.ListN.{length};
 ghost use lib.Seq.{sets};
-ghost use Rattle.basics.specs.Tables.{table};
-ghost use Rattle.study.specs.Withdrawing.{withdrawn};
+ghost use Rattle.rates.specs.declared.Kind.the-variants.{Prepared};
 ghost use Rattle.study.specs.Study.{opened, added};
+ghost use Rattle.study.specs.Withdrawing.{withdrawn};
 ghost use Rattle.study_list.specs.Lent.{answered, stored};
 ghost use Rattle.study_list.specs.StudyList.{studyNumbers};
+ghost use Rattle.c_abi.specs.declared.Change.the-variants.{Add, Withdraw};
 ghost use Rattle.c_abi.specs.Abi.{dateIn};
-ghost use Rattle.c_abi.specs.StudyCalls.{isWord, closingAt, countsAreWords, studyForm, sumsIn, studyIn, claimAnswer, claimAfter, joinAnswer, joinAfter};
+ghost use Rattle.c_abi.specs.StudyCalls.{heldUpTo, sumsIn, studyIn, changedBy, claimAnswer, claimAfter, joinAnswer, joinAfter};
+use crate::Change;
 use crate::listing::date_in;
+use basics::limits::MOST_CLAIMS;
+use basics::limits::NO_FORM;
 use calendar::Day;
+use calendar::LAST_DAY;
 use claim_file::MaybeClaim;
+use claim_months::Claim;
 use claim_months::Window;
+use rates::Kind;
+use study::Answer;
 use study::Study;
-use study::Sums;
 use study_list::put_study;
 
-// Whether a number is one of 32 bits.
-fn is_word(x: i64) -> bool
-    ensures { λ r. ⌜ r ≡ isWord x ⌝ }
+// A number from 0 to the most that its field may hold; any other is read as one more, which the study's own checks refuse.
+fn held_up_to(most: u32, x: i64) -> u32
+    requires { ⌜ most ≤ 1000000 ⌝ }
+    ensures { λ r. ⌜ r ≡ heldUpTo most x ⌝ }
 {
     if x < 0 {
-        return false;
+        return most + 1;
     }
-    x <= 4294967295
-}
-
-// A number of 32 bits as such.
-fn word(x: i64) -> u32
-    requires { ⌜ isWord x ≡ true ⌝ }
-    ensures { λ r. ⌜ r ≡ natAbs x ⌝ }
-{
+    if x > most as i64 {
+        return most + 1;
+    }
     x as u32
 }
 
-// Where the closing count at a place of the 25 stands in a list whose sums start at a place.
-fn closing_at(from: usize, place: usize) -> usize
-    requires { ⌜ from ≤ 43 ⌝ }
-    requires { ⌜ place ≤ 24 ⌝ }
-    ensures { λ r. ⌜ r ≡ closingAt from place ⌝ }
+// The sums that stand in a study's list.
+fn sums_in(list: &[i64]) -> [i64; 80]
+    requires { ⌜ 83 ≤ length (now list) ⌝ }
+    ensures { λ r. ⌜ r ≡ sumsIn (now (list .entry)) ⌝ }
 {
-    from + 1 + 8 * (place / 5) + place % 5
-}
-
-// Whether every closing count of the sums from a place on is a number of 32 bits.
-fn counts_are_words(list: &[i64], from: usize) -> bool
-    requires { ⌜ from ≤ 43 ⌝ }
-    requires { ⌜ from + 40 ≤ length (now list) ⌝ }
-    ensures { λ r. ⌜ r ≡ countsAreWords (now (list .entry)) from 25 ⌝ }
-{
-    let mut left = 25;
-    while left > 0 {
-        left -= 1;
-        let at = closing_at(from, left);
-        let count = list[at];
-        if !is_word(count) {
-            return false;
-        }
+    let mut sums = [0; 80];
+    for place in 0..80 {
+        sums[place] = list[place + 3];
     }
-    true
-}
-
-// Whether a list has the form of a study.
-fn is_study(list: &[i64]) -> bool
-    ensures { λ r. ⌜ r ≡ studyForm (now (list .entry)) ⌝ }
-{
-    if list.len() < 83 {
-        return false;
-    }
-    let first = list[0];
-    if !is_word(first) {
-        return false;
-    }
-    let last = list[1];
-    if !is_word(last) {
-        return false;
-    }
-    let taken = list[2];
-    if !is_word(taken) {
-        return false;
-    }
-    if !counts_are_words(list, 3) {
-        return false;
-    }
-    counts_are_words(list, 43)
-}
-
-// One number of each group, from that of group 1 on.
-fn group_numbers(list: &[i64], from: usize) -> [i64; 5]
-    requires { ⌜ from + 33 ≤ length (now list) ⌝ }
-    ensures { λ r. ⌜ r ≡ table 5 (λ k. getD (now (list .entry)) (from + 8 * k) (pos 0)) ⌝ }
-{
-    let mut numbers = [0; 5];
-    let mut k = 0;
-    while k < 5 {
-        let number = list[from + 8 * k];
-        numbers[k] = number;
-        k += 1;
-    }
-    numbers
-}
-
-// The closing counts of the sums that stand in a list from a place on.
-fn closing_counts(list: &[i64], from: usize) -> [u32; 25]
-    requires { ⌜ from ≤ 43 ⌝ }
-    requires { ⌜ from + 40 ≤ length (now list) ⌝ }
-    requires { ⌜ countsAreWords (now list) from 25 ≡ true ⌝ }
-    ensures { λ r. ⌜ r ≡ table 25 (λ k. natAbs (getD (now (list .entry)) (closingAt from k) (pos 0))) ⌝ }
-{
-    let mut counts = [0; 25];
-    let mut k = 0;
-    while k < 25 {
-        let at = closing_at(from, k);
-        let count = list[at];
-        counts[k] = word(count);
-        k += 1;
-    }
-    counts
-}
-
-// The sums that stand in a list from a place on.
-fn sums_in(list: &[i64], from: usize) -> Sums
-    requires { ⌜ from ≤ 43 ⌝ }
-    requires { ⌜ from + 40 ≤ length (now list) ⌝ }
-    requires { ⌜ countsAreWords (now list) from 25 ≡ true ⌝ }
-    ensures { λ r. ⌜ r ≡ sumsIn (now (list .entry)) from ⌝ }
-{
-    Sums {
-        thirtieths: group_numbers(list, from),
-        closings: closing_counts(list, from),
-        recoveries: group_numbers(list, from + 6),
-        deaths: group_numbers(list, from + 7),
-    }
+    sums
 }
 
 // The study that a list holds.
 fn study_in(list: &[i64]) -> Study
-    requires { ⌜ studyForm (now list) ≡ true ⌝ }
+    requires { ⌜ 83 ≤ length (now list) ⌝ }
     ensures { λ r. ⌜ r ≡ studyIn (now (list .entry)) ⌝ }
 {
     let first = list[0];
@@ -149,12 +62,11 @@ fn study_in(list: &[i64]) -> Study
     let taken = list[2];
     Study {
         window: Window {
-            first: Day(word(first)),
-            last: Day(word(last)),
+            first: Day(held_up_to(LAST_DAY, first)),
+            last: Day(held_up_to(LAST_DAY, last)),
         },
-        taken: word(taken),
-        sums: sums_in(list, 3),
-        weighted: sums_in(list, 43),
+        taken: held_up_to(MOST_CLAIMS, taken),
+        sums: sums_in(list),
     }
 }
 
@@ -165,7 +77,7 @@ pub extern "C" fn ltd_open(first: u32, last: u32, study: &mut [i64]) -> u8
     ensures { λ _. ⌜ now (study .exit) ≡ stored 83 (now (study .entry)) (sets (now (study .entry)) 0 (studyNumbers (opened (dateIn first) (dateIn last) .study))) ⌝ }
 {
     if study.len() < 83 {
-        return 255;
+        return NO_FORM;
     }
     let answer = Study::open(date_in(first), date_in(last));
     let found = answer.study;
@@ -173,19 +85,28 @@ pub extern "C" fn ltd_open(first: u32, last: u32, study: &mut [i64]) -> u8
     answer.refused
 }
 
-// Adds a claim to a study.
-#[no_mangle]
-pub extern "C" fn ltd_add(study: &mut [i64], claim: &[u8], rates: &[u32]) -> u8
-    ensures { λ r. ⌜ r ≡ claimAnswer added (now (study .entry)) (now (claim .entry)) (now (rates .entry)) ⌝ }
-    ensures { λ _. ⌜ now (study .exit) ≡ claimAfter added (now (study .entry)) (now (claim .entry)) (now (rates .entry)) ⌝ }
+// What a study makes of a claim, with a table of either kind.
+fn changed(change: Change, kind: Kind, study: Study, claim: Claim, table: &[u32]) -> Answer
+    ensures { λ r. ⌜ r ≡ changedBy change kind study claim (now (table .entry)) ⌝ }
 {
-    if !is_study(study) {
-        return 255;
+    match change {
+        Change::Add => study.add_with(kind, table, claim),
+        Change::Withdraw => study.withdraw_with(kind, table, claim),
+    }
+}
+
+// Changes a study by the claim of a record.
+fn change_study(change: Change, kind: Kind, study: &mut [i64], claim: &[u8], table: &[u32]) -> u8
+    ensures { λ r. ⌜ r ≡ claimAnswer (changedBy change kind) (now (study .entry)) (now (claim .entry)) (now (table .entry)) ⌝ }
+    ensures { λ _. ⌜ now (study .exit) ≡ claimAfter (changedBy change kind) (now (study .entry)) (now (claim .entry)) (now (table .entry)) ⌝ }
+{
+    if study.len() < 83 {
+        return NO_FORM;
     }
     let MaybeClaim::Found(read) = claim_file::record::read_record(claim, 0) else {
-        return 255;
+        return NO_FORM;
     };
-    let answer = study_in(study).add(read, rates);
+    let answer = changed(change, kind, study_in(study), read, table);
     if answer.refused != 0 {
         return answer.refused;
     }
@@ -194,25 +115,40 @@ pub extern "C" fn ltd_add(study: &mut [i64], claim: &[u8], rates: &[u32]) -> u8
     0
 }
 
+// Adds a claim to a study.
+#[no_mangle]
+pub extern "C" fn ltd_add(study: &mut [i64], claim: &[u8], rates: &[u32]) -> u8
+    ensures { λ r. ⌜ r ≡ claimAnswer added (now (study .entry)) (now (claim .entry)) (now (rates .entry)) ⌝ }
+    ensures { λ _. ⌜ now (study .exit) ≡ claimAfter added (now (study .entry)) (now (claim .entry)) (now (rates .entry)) ⌝ }
+{
+    change_study(Change::Add, Kind::Plain, study, claim, rates)
+}
+
+// The same with a prepared table.
+#[no_mangle]
+pub extern "C" fn ltd_prepared_add(study: &mut [i64], claim: &[u8], table: &[u32]) -> u8
+    ensures { λ r. ⌜ r ≡ claimAnswer (changedBy Add Prepared) (now (study .entry)) (now (claim .entry)) (now (table .entry)) ⌝ }
+    ensures { λ _. ⌜ now (study .exit) ≡ claimAfter (changedBy Add Prepared) (now (study .entry)) (now (claim .entry)) (now (table .entry)) ⌝ }
+{
+    change_study(Change::Add, Kind::Prepared, study, claim, table)
+}
+
 // Withdraws a claim from a study.
 #[no_mangle]
 pub extern "C" fn ltd_withdraw(study: &mut [i64], claim: &[u8], rates: &[u32]) -> u8
     ensures { λ r. ⌜ r ≡ claimAnswer withdrawn (now (study .entry)) (now (claim .entry)) (now (rates .entry)) ⌝ }
     ensures { λ _. ⌜ now (study .exit) ≡ claimAfter withdrawn (now (study .entry)) (now (claim .entry)) (now (rates .entry)) ⌝ }
 {
-    if !is_study(study) {
-        return 255;
-    }
-    let MaybeClaim::Found(read) = claim_file::record::read_record(claim, 0) else {
-        return 255;
-    };
-    let left = study_in(study).withdraw(read, rates);
-    if left.refused != 0 {
-        return left.refused;
-    }
-    let after = left.study;
-    put_study(after, 0, study);
-    0
+    change_study(Change::Withdraw, Kind::Plain, study, claim, rates)
+}
+
+// The same with a prepared table.
+#[no_mangle]
+pub extern "C" fn ltd_prepared_withdraw(study: &mut [i64], claim: &[u8], table: &[u32]) -> u8
+    ensures { λ r. ⌜ r ≡ claimAnswer (changedBy Withdraw Prepared) (now (study .entry)) (now (claim .entry)) (now (table .entry)) ⌝ }
+    ensures { λ _. ⌜ now (study .exit) ≡ claimAfter (changedBy Withdraw Prepared) (now (study .entry)) (now (claim .entry)) (now (table .entry)) ⌝ }
+{
+    change_study(Change::Withdraw, Kind::Prepared, study, claim, table)
 }
 
 // Joins a study into another.
@@ -221,11 +157,11 @@ pub extern "C" fn ltd_join(study: &mut [i64], other: &[i64]) -> u8
     ensures { λ r. ⌜ r ≡ joinAnswer (now (study .entry)) (now (other .entry)) ⌝ }
     ensures { λ _. ⌜ now (study .exit) ≡ joinAfter (now (study .entry)) (now (other .entry)) ⌝ }
 {
-    if !is_study(study) {
-        return 255;
+    if study.len() < 83 {
+        return NO_FORM;
     }
-    if !is_study(other) {
-        return 255;
+    if other.len() < 83 {
+        return NO_FORM;
     }
     let pool = study_in(study).join(study_in(other));
     if pool.refused != 0 {

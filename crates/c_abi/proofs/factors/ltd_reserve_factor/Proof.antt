@@ -34,38 +34,37 @@ returns c = not-five _ _ _ (c .if1 .taken)
 returns-2 : tie.Need-returns-2
 returns-2 c = no-room _ _ _ (c .before .if1 .left) (c .if2 .taken)
 
--- what the call answers, of the T that were lent
-answer :
-    (c : tie.After-reserve-factor)
-    → c .reserve-factor .result
-    ≡ reserveIn (c .before .before .before .before .before .before .before .args .rates .now)
-    (c .before .before .before .before .before .before .before .args .cell) (c .before .before .before .before .before .before .before .args .first)
-    (c .before .before .before .before .before .before .before .args .t .now)
-    (c .before .before .before .before .before .before .before .args .months) (c .before .before .before .before .before .before .before .args .v)
+-- what the call is to answer, of the T that were lent
+abbrev due : tie.After-reserve-factor → Reserve
+due c =
+    let s = c .before .before .before .before .before .before .before .args in
+    reserveIn (s .rates .now) (s .cell) (s .first) (s .t .now) (s .months) (s .v)
+
+answer : (c : tie.After-reserve-factor) → c .reserve-factor .result ≡ due c
 answer c =
     let s = c .before .before .before .before .before .before .before .args in
     c .reserve-factor .ensures
     ∙ ap (λ (t : List ℕ). reserveIn (s .rates .now) (s .cell) (s .first) t (s .months) (s .v)) (c .before .five .ensures)
 
+-- past the call, its answer is told and stored
+told :
+    (c : tie.After-reserve-factor) (x : Reserve)
+    → c .reserve-factor .result ≡ x
+    → let s = c .before .before .before .before .before .before .before .args in
+    (reserveNumber x ≡ reserveAnswered (s .t .now) (s .out .now) (due c)) × (reserveStored (s .out .now) x ≡ reserveAfter (s .t .now) (s .out .now) (due c))
+told c x h =
+    let e = c .before .before in
+    let s = e .before .before .before .before .before .args in
+    let q = sym h ∙ answer c in
+    lent (s .t .now) (s .out .now) _ _ _ (e .before .if1 .left) (e .if2 .left) (ap reserveNumber q) (ap (reserveStored (s .out .now)) q)
+
 returns-3 : tie.Need-returns-3
 unfolding reserveNumber reserveStored
-returns-3 c =
-    let f = c .before in
-    let r = f .before .before in
-    let e = r .before .before in
-    let s = e .before .before .before .before .before .args in
-    let q = sym (f .factor .given .1) ∙ answer r in
-    lent (s .t .now) (s .out .now) _ _ _ (e .before .if1 .left) (e .if2 .left) (ap reserveNumber q) (ap (reserveStored (s .out .now)) q)
+returns-3 c = told (c .before .before .before) _ (c .before .factor .given .1)
 
 returns-4 : tie.Need-returns-4
 unfolding reserveNumber reserveStored
-returns-4 c =
-    let f = c .before in
-    let r = f .before .before in
-    let e = r .before .before in
-    let s = e .before .before .before .before .before .args in
-    let q = sym (f .number .given .1) ∙ answer r in
-    lent (s .t .now) (s .out .now) _ _ _ (e .before .if1 .left) (e .if2 .left) (ap reserveNumber q) (ap (reserveStored (s .out .now)) q)
+returns-4 c = told (c .before .before .before) _ (c .before .number .given .1)
 
 pub ltd-reserve-factor-spec : {M : Type 1} → statement M
 ltd-reserve-factor-spec =

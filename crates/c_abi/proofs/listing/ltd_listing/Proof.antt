@@ -12,7 +12,8 @@ use Rattle.claim_months.specs.declared.Listed.{Listed}
 use Rattle.claim_months.specs.Listing.{listingOf, listAfter}
 use Rattle.claim_file.specs.declared.MaybeClaim.{MaybeClaim}
 use Rattle.claim_file.specs.declared.MaybeClaim.the-variants.{Found, NoRecord}
-use Rattle.c_abi.specs.Abi.{refusedNumber}
+use Rattle.claim_file.specs.BlockAnswers.{recordIn}
+use Rattle.c_abi.specs.Abi.{dateIn, refusedNumber}
 use Rattle.c_abi.specs.RecordCalls.{listedNumber, listingAnswer, listingAfter}
 use Rattle.c_abi.proofs.listing.ltd_listing.Statement.{statement}
 use Rattle.c_abi.proofs.listing.ltd_listing.Tie as tie
@@ -35,27 +36,27 @@ module _ (old : List ℤ) (first last : Date) (r : MaybeClaim) where
 returns : tie.Need-returns
 returns c = none _ _ _ _ _ (omega arith) (sym (c .enum-told .given .1) ∙ c .before .before .read-record .ensures)
 
-returns-2 : tie.Need-returns-2
-unfolding listedNumber
-returns-2 c =
-    let m = c .before in
-    let l = m .before .before .before in
-    let e = l .before .before in
+-- past `list_months`, its answer's number is told and its list left
+past :
+    (c : tie.After-list-months) (x : Listed)
+    → c .list-months .result ≡ x
+    → let s = c .before .before .before .before .before .before .before .before .before .args in
+    (listedNumber x ≡ listingAnswer (dateIn (s .first)) (dateIn (s .last)) (recordIn (s .claim .now) 0) (length (s .list .now)))
+    × (c .list-months .last .1 .1 .1 .0 ≡ listingAfter (dateIn (s .first)) (dateIn (s .last)) (recordIn (s .claim .now) 0) (s .list .now))
+past c x h =
+    let e = c .before .before in
     let r = e .before .before .before in
     listed (r .before .before .before .before .args .list .now) _ _ _ _ _ _ _ _ (e .before .date-in .ensures) (e .date-in2 .ensures)
-    (sym (r .read .given .1) ∙ r .before .before .read-record .ensures) (l .list-months .ensures .0) (l .list-months .ensures .1) _
-    (ap listedNumber (sym (m .months .given .1)))
+    (sym (r .read .given .1) ∙ r .before .before .read-record .ensures) (c .list-months .ensures .0) (c .list-months .ensures .1) _
+    (ap listedNumber (sym h))
+
+returns-2 : tie.Need-returns-2
+unfolding listedNumber
+returns-2 c = past (c .before .before .before .before) _ (c .before .months .given .1)
 
 returns-3 : tie.Need-returns-3
 unfolding listedNumber
-returns-3 c =
-    let m = c .before in
-    let l = m .before .before .before in
-    let e = l .before .before in
-    let r = e .before .before .before in
-    listed (r .before .before .before .before .args .list .now) _ _ _ _ _ _ _ _ (e .before .date-in .ensures) (e .date-in2 .ensures)
-    (sym (r .read .given .1) ∙ r .before .before .read-record .ensures) (l .list-months .ensures .0) (l .list-months .ensures .1) _
-    (ap listedNumber (sym (m .refused .given .1)))
+returns-3 c = past (c .before .before .before .before) _ (c .before .refused .given .1)
 
 pub ltd-listing-spec : {M : Type 1} → statement M
 ltd-listing-spec =
