@@ -49,6 +49,47 @@ mod c {
             out_len: usize,
         ) -> u8;
 
+        pub fn ltd_prepared_add(
+            study: *mut i64,
+            study_len: usize,
+            claim: *const u8,
+            claim_len: usize,
+            table: *const u32,
+            table_len: usize,
+        ) -> u8;
+
+        pub fn ltd_prepared_withdraw(
+            study: *mut i64,
+            study_len: usize,
+            claim: *const u8,
+            claim_len: usize,
+            table: *const u32,
+            table_len: usize,
+        ) -> u8;
+
+        #[cfg(feature = "first_prepared_corrected")]
+        pub fn ltd_prepared_corrected_study(
+            file: *const u8,
+            file_len: usize,
+            table: *const u32,
+            table_len: usize,
+            out: *mut i64,
+            out_len: usize,
+        ) -> u8;
+
+        #[cfg(feature = "first_durations")]
+        pub fn ltd_durations(file: *const u8, file_len: usize, rates: *const u32, rates_len: usize, out: *mut i64, out_len: usize) -> u8;
+
+        #[cfg(feature = "first_durations")]
+        pub fn ltd_prepared_durations(
+            file: *const u8,
+            file_len: usize,
+            table: *const u32,
+            table_len: usize,
+            out: *mut i64,
+            out_len: usize,
+        ) -> u8;
+
         pub fn ltd_factor(group: u8, terminations: u32, expected: i64, out: *mut u64, out_len: usize) -> u8;
 
         pub fn ltd_wanted_count(group: u8, expected: i64, wanted: u64) -> u64;
@@ -102,6 +143,8 @@ mod c {
         pub fn ltd_write_block(number: u32, claims: *const u8, claims_len: usize, block: *mut u8, block_len: usize) -> u8;
 
         pub fn ltd_write_window(first: u32, last: u32, block: *mut u8, block_len: usize) -> u8;
+
+        pub fn ltd_version() -> u32;
     }
 }
 
@@ -173,6 +216,34 @@ pub fn prepared_file_study(file: &[u8], table: &[u32], out: &mut [i64]) -> u8 {
 /// The study of a whole claim file with corrections into `out` (86 numbers).
 pub fn corrected_study(file: &[u8], rates: &[u32], out: &mut [i64]) -> u8 {
     unsafe { c::ltd_corrected_study(head(file), file.len(), head(rates), rates.len(), head_mut(out), out.len()) }
+}
+
+/// As `add`, with a prepared table.
+pub fn prepared_add(study: &mut [i64], claim: &[u8], table: &[u32]) -> u8 {
+    unsafe { c::ltd_prepared_add(head_mut(study), study.len(), head(claim), claim.len(), head(table), table.len()) }
+}
+
+/// As `withdraw`, with a prepared table.
+pub fn prepared_withdraw(study: &mut [i64], claim: &[u8], table: &[u32]) -> u8 {
+    unsafe { c::ltd_prepared_withdraw(head_mut(study), study.len(), head(claim), claim.len(), head(table), table.len()) }
+}
+
+/// As `corrected_study`, with a prepared table.
+#[cfg(feature = "first_prepared_corrected")]
+pub fn prepared_corrected_study(file: &[u8], table: &[u32], out: &mut [i64]) -> u8 {
+    unsafe { c::ltd_prepared_corrected_study(head(file), file.len(), head(table), table.len(), head_mut(out), out.len()) }
+}
+
+/// The sums of each duration of a whole claim file into `out` (4 numbers and 8 for each of its rows).
+#[cfg(feature = "first_durations")]
+pub fn durations(file: &[u8], rates: &[u32], out: &mut [i64]) -> u8 {
+    unsafe { c::ltd_durations(head(file), file.len(), head(rates), rates.len(), head_mut(out), out.len()) }
+}
+
+/// As `durations`, with a prepared table.
+#[cfg(feature = "first_durations")]
+pub fn prepared_durations(file: &[u8], table: &[u32], out: &mut [i64]) -> u8 {
+    unsafe { c::ltd_prepared_durations(head(file), file.len(), head(table), table.len(), head_mut(out), out.len()) }
 }
 
 /// z, m and T into `out` (3 numbers).
@@ -250,4 +321,9 @@ pub fn write_block(number: u32, claims: &[u8], block: &mut [u8]) -> u8 {
 /// A window's dates as block 0.
 pub fn write_window(first: u32, last: u32, block: &mut [u8]) -> u8 {
     unsafe { c::ltd_write_window(first, last, head_mut(block), block.len()) }
+}
+
+/// The version that is linked: 65,536 × major + 256 × minor + patch.
+pub fn version() -> u32 {
+    unsafe { c::ltd_version() }
 }

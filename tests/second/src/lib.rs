@@ -2,12 +2,13 @@
 //! the benchmark measures against it.
 //!
 //! Layers as in the paper: `calendar`, `claim` and `months`, `study`, `valuation`; beside them the lent `rates`, the claim file (`block`,
-//! `run`), what the program prints (`report`), the rule for a `small_company` and the load that anyone can rebuild (`shared_load`);
-//! `examples`, `generate`, `load` and `rng` make inputs for tests and measurements.
+//! `run`), its sums by duration (`durations`), what the program prints (`report`), the rule for a `small_company` and the load that anyone
+//! can rebuild (`shared_load`); `examples`, `generate`, `load` and `rng` make inputs for tests and measurements.
 
 pub mod block;
 pub mod calendar;
 pub mod claim;
+pub mod durations;
 pub mod examples;
 pub mod generate;
 pub mod load;

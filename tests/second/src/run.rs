@@ -2,6 +2,7 @@
 
 use crate::block::{read_block, Block, BLOCK_LENGTH};
 use crate::claim::Claim;
+use crate::months::Window;
 use crate::rates::{PreparedTable, RateTable, Rates};
 use crate::study::{Study, STUDY_LENGTH};
 use crate::Refusal;
@@ -35,12 +36,22 @@ pub fn run_prepared_file(file: &[u8], table: &[u32]) -> FileRun {
 
 /// Runs blocks as they come, and asks for none after the first refusal.
 pub fn run_blocks<B: AsRef<[u8]>>(blocks: impl Iterator<Item = B>, rates: &impl Rates) -> FileRun {
-    run(|study| take_blocks(blocks, rates, study))
+    run(|study| take_blocks(blocks, rates, study, |_, _| {}))
+}
+
+/// As `run_file`, and hands each accepted claim and the window to `taken`.
+pub fn run_each(file: &[u8], rates: &impl Rates, taken: impl FnMut(Window, &Claim)) -> FileRun {
+    run(|study| take_blocks(file.chunks(BLOCK_LENGTH), rates, study, taken))
 }
 
 /// Runs a file in which a later record corrects the earlier ones with its claim number: only the last in file order is studied.
 pub fn run_corrected_file(file: &[u8], rates: &[u32]) -> FileRun {
     run(|study| take_corrected(file, &RateTable::new(rates), study))
+}
+
+/// As `run_corrected_file`, with a prepared table.
+pub fn run_prepared_corrected_file(file: &[u8], table: &[u32]) -> FileRun {
+    run(|study| take_corrected(file, &PreparedTable(table), study))
 }
 
 /// A refusal, its block and its claim's place.
@@ -79,7 +90,12 @@ fn take_corrected(file: &[u8], rates: &impl Rates, study: &mut Study) -> Result<
     Ok(())
 }
 
-fn take_blocks<B: AsRef<[u8]>>(blocks: impl Iterator<Item = B>, rates: &impl Rates, study: &mut Study) -> Result<(), Stop> {
+fn take_blocks<B: AsRef<[u8]>>(
+    blocks: impl Iterator<Item = B>,
+    rates: &impl Rates,
+    study: &mut Study,
+    mut taken: impl FnMut(Window, &Claim),
+) -> Result<(), Stop> {
     let mut due = 0;
     for bytes in blocks {
         match read_block(bytes.as_ref(), due).map_err(|refusal| (refusal, due, 0))? {
@@ -89,6 +105,7 @@ fn take_blocks<B: AsRef<[u8]>>(blocks: impl Iterator<Item = B>, rates: &impl Rat
             Block::Claims(block) => {
                 for (place, claim) in (1u32..).zip(&block.claims[..block.count]) {
                     study.add(claim, rates).map_err(|refusal| (refusal, due, place))?;
+                    taken(study.window, claim);
                 }
             }
         }

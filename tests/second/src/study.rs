@@ -3,7 +3,7 @@
 
 use crate::calendar::{Date, Day};
 use crate::claim::{CheckedClaim, Claim, Duration, MOST_BENEFIT};
-use crate::months::{month_records, Window};
+use crate::months::{month_records, MonthRecord, Window};
 use crate::rates::{Rates, RatesByDuration};
 use crate::Refusal;
 
@@ -45,6 +45,26 @@ pub struct GroupSums {
 }
 
 impl GroupSums {
+    /// Eight numbers: thirtieths, five closing counts, expected recoveries and deaths.
+    pub fn numbers(&self) -> [i64; GROUP_LENGTH] {
+        let [recovery, death, settlement, max_out, limit] = self.closings.map(i64::from);
+        [self.thirtieths, recovery, death, settlement, max_out, limit, self.expected_recoveries, self.expected_deaths]
+    }
+
+    /// A month's thirtieths and closing by count, and what its rates make it expect.
+    #[inline]
+    pub fn add_month(&mut self, record: &MonthRecord, cell: &impl RatesByDuration) {
+        let (recovery, death) = cell.at(record.duration);
+        let thirtieths = record.thirtieths.0 as i64;
+        self.thirtieths += thirtieths;
+        // Only a single duration's sum with a list that was never prepared can pass 64 bits: check 9 holds a group's within.
+        self.expected_recoveries = self.expected_recoveries.wrapping_add(thirtieths * recovery);
+        self.expected_deaths = self.expected_deaths.wrapping_add(thirtieths * death);
+        if record.category != 0 {
+            self.closings[record.category as usize - 1] += 1;
+        }
+    }
+
     fn add(&mut self, other: &GroupSums) {
         self.thirtieths += other.thirtieths;
         for (count, more) in self.closings.iter_mut().zip(other.closings) {
@@ -125,32 +145,29 @@ impl Study {
         let mut numbers = [0; STUDY_LENGTH];
         numbers[..3].copy_from_slice(&[self.window.first.0 as i64, self.window.last.0 as i64, self.claims_taken as i64]);
         for (row, group) in numbers[SUMS_AT..].chunks_exact_mut(GROUP_LENGTH).zip(self.groups.iter().chain(&self.weighted)) {
-            row[0] = group.thirtieths;
-            for (number, &count) in row[1..6].iter_mut().zip(&group.closings) {
-                *number = count as i64;
-            }
-            row[6] = group.expected_recoveries;
-            row[7] = group.expected_deaths;
+            row.copy_from_slice(&group.numbers());
         }
         numbers
     }
 
-    /// The study of any numbers; none if a day, the claims taken, a closing count or a weighted closing sum is not 0 to 2^32 − 1.
-    pub fn of_numbers(numbers: &[i64; STUDY_LENGTH]) -> Option<Study> {
-        let unsigned = |number: i64| u32::try_from(number).ok();
-        // A day number that `Day` cannot hold is as little a date as the highest one it can.
-        let day = |number: i64| unsigned(number).map(|number| Day(number.min(i32::MAX as u32) as i32));
-        let window = Window { first: day(numbers[0])?, last: day(numbers[1])? };
-        let mut study = Study { claims_taken: unsigned(numbers[2])?, ..Study::over(window) };
+    /// The study of any numbers. One that its field can't hold is refused as its place says, a day by check 1, claims taken and closings by
+    /// check 9: the field then has a number that this check refuses too, and a refused study is never written back.
+    pub fn of_numbers(numbers: &[i64; STUDY_LENGTH]) -> Study {
+        // No date.
+        let day = |number: i64| Day(i32::try_from(number).unwrap_or(i32::MAX));
+        // Beyond every bound, also that of the weighted set.
+        let unsigned = |number: i64| u32::try_from(number).unwrap_or(u32::MAX);
+        let window = Window { first: day(numbers[0]), last: day(numbers[1]) };
+        let mut study = Study { claims_taken: unsigned(numbers[2]), ..Study::over(window) };
         for (group, row) in study.groups.iter_mut().chain(&mut study.weighted).zip(numbers[SUMS_AT..].chunks_exact(GROUP_LENGTH)) {
             group.thirtieths = row[0];
             for (count, &number) in group.closings.iter_mut().zip(&row[1..6]) {
-                *count = unsigned(number)?;
+                *count = unsigned(number);
             }
             group.expected_recoveries = row[6];
             group.expected_deaths = row[7];
         }
-        Some(study)
+        study
     }
 
     /// Check 1.
@@ -250,14 +267,7 @@ fn each_share(claim: &CheckedClaim, window: Window, cell: &impl RatesByDuration,
             take(group, &sums);
             (group, sums) = (record_group, GroupSums::default());
         }
-        let (recovery, death) = cell.at(record.duration);
-        let thirtieths = record.thirtieths.0 as i64;
-        sums.thirtieths += thirtieths;
-        sums.expected_recoveries += thirtieths * recovery;
-        sums.expected_deaths += thirtieths * death;
-        if record.category != 0 {
-            sums.closings[record.category as usize - 1] += 1;
-        }
+        sums.add_month(&record, cell);
     }
     take(group, &sums);
 }

@@ -478,7 +478,7 @@ fn joined_studies_stay_within_the_bounds() {
         let at = |number: i64| {
             let mut numbers = numbers;
             numbers[place] = number;
-            Study::of_numbers(&numbers).unwrap()
+            Study::of_numbers(&numbers)
         };
         let answer = |one: i64, other: i64| joined(&at(one), &at(other)).map(|joined| joined.numbers()[place]);
         for side in if signed { &[1, -1][..] } else { &[1] } {

@@ -4,9 +4,10 @@ use second::calendar::Date;
 use second::claim::Claim;
 use second::examples::flat_rates;
 use second::generate::{any_cell, claim_file, damage_claim, damage_rates, sound_claim, sound_rates, sound_window};
-use second::rates::{prepare, CELL_LENGTH, DURATIONS};
+use second::rates::{prepare, PreparedTable, RateTable, CELL_LENGTH, DURATIONS};
 use second::rng::Rng;
-use second::run::{run_file, run_prepared_file};
+use second::run::{run_corrected_file, run_file, run_prepared_corrected_file, run_prepared_file, MOST_RECORDS};
+use second::study::Study;
 use second::Refusal;
 
 /// Rates and a last number.
@@ -72,6 +73,7 @@ fn runs_with_a_prepared_table_are_runs_with_its_rates() {
         let prepared = prepare(&mut table);
         let run = run_prepared_file(&file, &table);
         assert_eq!(run, run_file(&file, &rates));
+        assert_eq!(run_prepared_corrected_file(&file, &table), run_corrected_file(&file, &rates));
         assert!(prepared.is_ok() || [2, 3, 4, 16, 5, 6].contains(&run.refused));
         met[run.refused as usize] += 1;
     }
@@ -102,4 +104,89 @@ fn a_list_never_prepared_has_its_differences_for_rates() {
     assert_eq!([&table[..958], &table[1..], &[1], &[]].map(refused), [6; 4]);
     assert_eq!([0, 2, u32::MAX].map(|last| refused(&table_of(&table[..958], last))), [6; 3]);
     assert_eq!(refused(&table_of(&[&[1_000_001], &table[1..958]].concat(), 1)), 8);
+}
+
+/// Each claim added and withdrawn with the prepared table of some rates, and with these rates: the same study and the same refusal.
+#[test]
+fn adding_and_withdrawing_with_a_prepared_table() {
+    let mut rng = Rng::new(204);
+    let mut met = [0; 19];
+    for _ in 0..400 {
+        let cells = rng.range(1, 3) as usize;
+        let mut rates = sound_rates(&mut rng, cells);
+        if rng.one_in(3) {
+            damage_rates(&mut rng, &mut rates);
+        }
+        let mut table = table_of(&rates, 0);
+        let _ = prepare(&mut table);
+        let (plain_rates, prepared_rates) = (RateTable::new(&rates), PreparedTable(&table));
+        let about = sound_claim(&mut rng);
+        let (first, last) = sound_window(&mut rng, &about);
+        let mut plain = Study::open(first, last).unwrap();
+        let mut prepared = plain;
+        for _ in 0..40 {
+            let mut claim = Claim { cell: any_cell(&mut rng, cells), ..sound_claim(&mut rng) };
+            if rng.one_in(4) {
+                damage_claim(&mut rng, &mut claim);
+            }
+            let answers = if rng.one_in(3) {
+                [plain.withdraw(&claim, &plain_rates), prepared.withdraw(&claim, &prepared_rates)]
+            } else {
+                [plain.add(&claim, &plain_rates), prepared.add(&claim, &prepared_rates)]
+            };
+            assert_eq!((answers[0], plain), (answers[1], prepared), "{claim}");
+            met[answers[0].err().map_or(0, |refusal| refusal.number() as usize)] += 1;
+        }
+    }
+    assert!([0, 2, 3, 4, 5, 6, 7, 8, 16, 18].iter().all(|&number| met[number] >= 50), "{met:?}");
+}
+
+#[test]
+fn a_claim_added_and_withdrawn_with_a_list_never_prepared() {
+    // Recovery rates from 2 on: 5, −3, 10 and then nothing; a last number that is not 1 is no prepared table.
+    let mut table = vec![12; CELL_LENGTH + 1];
+    (table[0], table[1], table[CELL_LENGTH]) = (5, 2, 1);
+    table[DURATIONS..CELL_LENGTH].fill(0);
+    let claim = Claim { disability: Date::new(1950, 1, 1), bcd: Date::new(1950, 2, 1), ..Claim::default() };
+    let opened = Study::open(Date::new(1950, 2, 1), Date::new(1950, 4, 30)).unwrap();
+    let mut study = opened;
+    for (claims, expected) in [(1, 30 * 5), (2, 2 * 30 * 5)] {
+        // Durations 2 and 3 are of group 1, duration 4 of group 2.
+        study.add(&claim, &PreparedTable(&table)).unwrap();
+        assert_eq!(study.groups[0].expected_recoveries, expected - claims * 30 * 3);
+        assert_eq!((study.groups[1].expected_recoveries, study.groups[1].expected_deaths), (claims * 30 * 10, 0));
+    }
+    for last in [0, 2, u32::MAX] {
+        let wrong = table_of(&table[..CELL_LENGTH], last);
+        assert_eq!(study.add(&claim, &PreparedTable(&wrong)), Err(Refusal::RateTable));
+        assert_eq!(study.withdraw(&claim, &PreparedTable(&wrong)), Err(Refusal::RateTable));
+    }
+    for _ in 0..2 {
+        study.withdraw(&claim, &PreparedTable(&table)).unwrap();
+    }
+    assert_eq!((study, study.withdraw(&claim, &PreparedTable(&table))), (opened, Err(Refusal::NotTaken)));
+}
+
+/// Of each claim number the last record alone, and 11, 1 and 14 before any table is asked for.
+#[test]
+fn corrected_runs_with_a_prepared_table() {
+    let mut table = table_of(&flat_rates(10_000, 5_000), 0);
+    prepare(&mut table).unwrap();
+    let window = (Date::new(2009, 1, 1), Date::new(2017, 12, 31));
+    let wrong = Claim { number: 1, disability: Date::new(2009, 3, 13), bcd: Date::new(2009, 6, 11), status: 9, ..Claim::default() };
+    let right = Claim { status: 0, ..wrong };
+    let run = |window, claims: &[Claim], table: &[u32]| {
+        let run = run_prepared_corrected_file(&claim_file(window, claims, None), table);
+        (run.refused, run.block, run.place, run.study.claims_taken)
+    };
+    let corrected = [wrong, Claim { number: 2, ..right }, right];
+    assert_eq!(run(window, &corrected, &table), (0, 0, 0, 2));
+    assert_eq!(run(window, &[right, wrong], &table), (3, 1, 2, 0));
+    // The first record is not asked for its rates.
+    assert_eq!(run(window, &corrected, &table[1..]), (6, 1, 2, 0));
+    assert_eq!(run(window, &corrected, &flat_rates(10_000, 5_000)), (6, 1, 2, 0));
+    assert_eq!(run((window.1, window.0), &corrected, &[]), (1, 0, 0, 0));
+    let many = vec![right; MOST_RECORDS + 1];
+    assert_eq!([run(window, &many, &table), run(window, &many, &[])], [(14, 0, 0, 0); 2]);
+    assert_eq!(run(window, &many[1..], &table), (0, 0, 0, 1));
 }

@@ -47,7 +47,7 @@ fn claim_number(rng: &mut Rng, kind: u64) -> u32 {
 }
 
 /// Sound claims of the table's cells with repeated numbers.
-fn repeating_claims(rng: &mut Rng, count: usize, cells: usize) -> Vec<Claim> {
+pub fn repeating_claims(rng: &mut Rng, count: usize, cells: usize) -> Vec<Claim> {
     let kind = rng.below(8);
     let mut claims = sound_claims(rng, count, cells);
     claims.iter_mut().for_each(|claim| claim.number = claim_number(rng, kind));
@@ -55,7 +55,7 @@ fn repeating_claims(rng: &mut Rng, count: usize, cells: usize) -> Vec<Claim> {
 }
 
 /// Damages a claim, but not its number.
-fn damage_fields(rng: &mut Rng, claim: &mut Claim) {
+pub fn damage_fields(rng: &mut Rng, claim: &mut Claim) {
     let number = claim.number;
     damage_claim(rng, claim);
     claim.number = number;

@@ -13,6 +13,8 @@ use second::study::Study;
 pub const FAULTS: [u8; 10] = [WINDOW, DATE, STATUS, SEQUENCE, BENEFIT, SHORT_ELIMINATION, RATE_TABLE, CELL, RATE, FULL];
 /// Those of the claim alone.
 pub const OF_CLAIM: [u8; 5] = [DATE, STATUS, SEQUENCE, BENEFIT, SHORT_ELIMINATION];
+/// Those of the claim and the rates.
+pub const OF_CLAIM_AND_RATES: [u8; 8] = [DATE, STATUS, SEQUENCE, BENEFIT, SHORT_ELIMINATION, RATE_TABLE, CELL, RATE];
 
 /// A closed claim and rates of two cells with some of the faults.
 #[derive(Debug)]
@@ -25,7 +27,12 @@ pub struct Faulty {
 impl Faulty {
     pub fn new(rng: &mut Rng) -> Faulty {
         let one_in = rng.pick(&[2, 4, 8]);
-        let faults: Vec<u8> = FAULTS.into_iter().filter(|_| rng.one_in(one_in)).collect();
+        let faults = FAULTS.into_iter().filter(|_| rng.one_in(one_in)).collect();
+        Faulty::with(rng, faults)
+    }
+
+    /// With these faults, in the order of the checks.
+    pub fn with(rng: &mut Rng, faults: Vec<u8>) -> Faulty {
         let has = |fault: u8| faults.contains(&fault);
         let mut claim = sound_claim(rng);
         while claim.status != CLOSED || claim.bcd.day_number().unwrap().0 < 20 {

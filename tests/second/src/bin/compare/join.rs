@@ -4,7 +4,7 @@ use crate::inputs::{sound_study, STUDY_WINDOW};
 use crate::one_input::{
     compare_add, compare_join, compare_open, compare_withdraw, had_often, same, FULL, OTHER_WINDOW, WINDOW, WRONG_FORM,
 };
-use crate::studies::{disturb_some, is_unsigned, most_at, passing_study, PAST};
+use crate::studies::{bounds_at, disturb_some, has_bad_window, is_full, is_unsigned, most_at, move_to_bounds, passing_study, PAST};
 use crate::windows::parts;
 use crate::{test, Outcome, Test};
 use second::block::claim_record;
@@ -21,7 +21,7 @@ pub const TESTS: &[Test] = &[
     test("joining: each number at its bound, from both sides", 102, at_bounds),
     test("joining: about the most claims taken", 103, claims_taken),
     test("joining: bad windows and unequal ones", 104, windows),
-    test("joining: numbers outside their fields", 105, outside_fields),
+    test("joining: numbers about their bounds, and the order of the checks", 105, about_bounds),
     test("joining: every length of either list", 106, lengths),
 ];
 
@@ -111,7 +111,7 @@ fn any_numbers(rng: &mut Rng) -> Outcome {
         }
         answers[compare_join(&mut study, &other)? as usize] += 1;
     }
-    had_often(&answers, &[0, WINDOW, FULL, OTHER_WINDOW, WRONG_FORM])?;
+    had_often(&answers, &[0, WINDOW, FULL, OTHER_WINDOW])?;
     Ok(n)
 }
 
@@ -119,7 +119,8 @@ fn any_numbers(rng: &mut Rng) -> Outcome {
 fn joins(place: usize, one: i64, other: i64) -> bool {
     let most = if place == 2 { MOST_CLAIMS as i128 } else { most_at(place) as i128 };
     let (one, other) = (one as i128, other as i128);
-    [one, other, one + other].iter().all(|number| number.abs() <= most)
+    let least = if is_unsigned(place) { 0 } else { -most };
+    [one, other, one + other].iter().all(|number| (least..=most).contains(number))
 }
 
 fn at_bounds(rng: &mut Rng) -> Outcome {
@@ -139,6 +140,8 @@ fn at_bounds(rng: &mut Rng) -> Outcome {
             ]);
             if is_unsigned(place) {
                 pairs.extend([(PAST - 1, 0), (PAST - 1, 1), (PAST - 1, PAST - 1), (PAST - most, most), (1 << 31, 1 << 31)]);
+                // Below zero in one, though not together; past 32 bits, and past 64 together.
+                pairs.extend([(-1, 0), (-1, 1), (-1, any), (most + 1, -1), (PAST, 0), (PAST + 5, 1), (PAST, -PAST), (i64::MAX, i64::MAX)]);
             } else {
                 // Of one sign and of both; beyond in one alone, and small in 64 bits.
                 let negative: Vec<(i64, i64)> = pairs.iter().map(|(one, other)| (-one, -other)).collect();
@@ -170,12 +173,13 @@ fn claims_taken(rng: &mut Rng) -> Outcome {
     let most = MOST_CLAIMS as i64;
     for _ in 0..3_000 {
         let any = rng.range(0, most);
-        let pairs = [(0, most), (any, most - any), (any, most - any + 1), (most + 1, 0), (any, PAST - any - 1), (PAST - 1, 1)];
+        let mut pairs = vec![(0, most), (any, most - any), (any, most - any + 1), (most + 1, 0), (any, PAST - any - 1), (PAST - 1, 1)];
+        pairs.extend([(-1, any), (-1, 1), (any, -any), (PAST, 0), (PAST + any, 0), (PAST, -PAST), (i64::MIN, any)]);
         for (one, other) in pairs.into_iter().flat_map(|(one, other)| [(one, other), (other, one)]) {
             let window = Study::open(STUDY_WINDOW.0, STUDY_WINDOW.1).unwrap().numbers();
             let (mut study, mut other_study) = (window, window);
             (study[2], other_study[2]) = (one, other);
-            let wanted = if one + other <= most { 0 } else { FULL };
+            let wanted = if joins(2, one, other) { 0 } else { FULL };
             same(compare_join(&mut study, &other_study)?, wanted, || format!("{one} and {other} claims"))?;
             n += 1;
         }
@@ -196,14 +200,14 @@ fn windows(rng: &mut Rng) -> Outcome {
         if full {
             let place = rng.range(2, STUDY_LENGTH as i64 - 1) as usize;
             let fuller = if rng.one_in(2) { &mut study } else { &mut other };
-            fuller[place] = most_at(place) + 2;
+            fuller[place] = if is_unsigned(place) { rng.pick(&[most_at(place) + 2, -1, PAST]) } else { most_at(place) + 1 };
         }
         let day = |rng: &mut Rng, day: i64| match rng.below(10) {
             0 => rng.range(0, last),
             1 => last + 1,
-            2 => rng.pick(&[0, last, last + 2, 1 << 31, PAST - 1]),
-            3 => (day - 1).max(0),
-            4 => (day + 1).min(last),
+            2 => rng.pick(&[-1, 0, last, last + 2, 1 << 31, PAST - 1, PAST, PAST + day]),
+            3 => day - 1,
+            4 => day + 1,
             _ => day,
         };
         (other[0], other[1]) = (day(rng, study[0]), day(rng, study[1]));
@@ -212,12 +216,13 @@ fn windows(rng: &mut Rng) -> Outcome {
         }
         if rng.one_in(8) {
             // Bad, and the same in both.
-            (study[0], study[1]) = rng.pick(&[(1, 0), (last, last - 1), (0, last + 1), (last + 1, last + 1), (PAST - 1, PAST - 1)]);
+            let bad =
+                [(1, 0), (last, last - 1), (0, last + 1), (last + 1, last + 1), (PAST - 1, PAST - 1), (-1, 0), (-1, -1), (PAST, PAST)];
+            (study[0], study[1]) = rng.pick(&bad);
             (other[0], other[1]) = (study[0], study[1]);
         }
-        let bad = |study: &[i64]| study[0] > study[1] || study[1] > last;
         let wanted = match () {
-            _ if bad(&study) || bad(&other) => WINDOW,
+            _ if has_bad_window(&study) || has_bad_window(&other) => WINDOW,
             _ if study[..2] != other[..2] => OTHER_WINDOW,
             _ if full => FULL,
             _ => 0,
@@ -230,29 +235,35 @@ fn windows(rng: &mut Rng) -> Outcome {
     Ok(n)
 }
 
-/// 255 comes before every numbered check, in either list.
-fn outside_fields(rng: &mut Rng) -> Outcome {
-    let mut n = 0;
-    for _ in 0..15 {
-        for place in (0..STUDY_LENGTH).filter(|&place| is_unsigned(place)) {
-            for number in [i64::MIN, -PAST, -1, 0, PAST - 1, PAST, PAST + 1, i64::MAX] {
-                for in_other in [false, true] {
-                    let [mut study, mut other] = two_studies(rng);
-                    if rng.one_in(3) {
-                        // Also refused under a number.
-                        study[rng.pick(&[0, 2, 3, 9])] = PAST - 1;
-                        other[rng.pick(&[0, 2, 3, 9])] = PAST - 1;
-                    }
-                    let changed = if in_other { &mut other } else { &mut study };
-                    changed[place] = number;
-                    let answer = compare_join(&mut study, &other)?;
-                    let outside = !(0..PAST).contains(&number);
-                    same(answer == WRONG_FORM, outside, || format!("{number} at place {place}, in the other: {in_other}: {answer}"))?;
-                    n += 1;
-                }
-            }
+/// Numbers about their bounds in either study or in both, with equal windows and others: 1 of the first, 1 of the second, 15, 9.
+fn about_bounds(rng: &mut Rng) -> Outcome {
+    let (n, mut answers, most) = (120_000, [0; 256], MOST_CLAIMS as i64);
+    for _ in 0..n {
+        let [mut study, mut other] = two_studies(rng);
+        if rng.one_in(2) {
+            move_to_bounds(rng, &mut study, most);
         }
+        if rng.one_in(2) {
+            move_to_bounds(rng, &mut other, most);
+        }
+        if rng.one_in(8) {
+            other[rng.below(2) as usize] += rng.pick(&[-1, 1]);
+        }
+        let window = [study[0], study[1]];
+        let both: Vec<i128> = study.iter().zip(&other).map(|(&one, &two)| one as i128 + two as i128).collect();
+        let past = |place: usize| i64::try_from(both[place]).map_or(true, |number| !bounds_at(place, most).contains(&number));
+        let wanted = match () {
+            _ if has_bad_window(&study) || has_bad_window(&other) => WINDOW,
+            _ if other[..2] != window => OTHER_WINDOW,
+            _ if is_full(&study, most) || is_full(&other, most) || (2..STUDY_LENGTH).any(past) => FULL,
+            _ => 0,
+        };
+        let input = format!("{study:?}\nand {other:?}");
+        let answer = compare_join(&mut study, &other)?;
+        same(answer, wanted, || input)?;
+        answers[answer as usize] += 1;
     }
+    had_often(&answers, &[0, WINDOW, OTHER_WINDOW, FULL])?;
     Ok(n)
 }
 
@@ -260,10 +271,10 @@ fn outside_fields(rng: &mut Rng) -> Outcome {
 fn lengths(rng: &mut Rng) -> Outcome {
     let mut n = 0;
     let fresh = Study::open(STUDY_WINDOW.0, STUDY_WINDOW.1).unwrap().numbers().to_vec();
-    let bad = vec![PAST - 1; STUDY_LENGTH];
+    let [bad, below_zero] = [PAST - 1, -1].map(|number| vec![number; STUDY_LENGTH]);
     for _ in 0..40 {
         for length in (0..=STUDY_LENGTH + 3).chain([2 * STUDY_LENGTH]) {
-            for (study, numbered) in [(&fresh, 0), (&bad, WINDOW)] {
+            for (study, numbered) in [(&fresh, 0), (&bad, WINDOW), (&below_zero, WINDOW)] {
                 let mut other_length = study.clone();
                 other_length.resize(length, rng.pick(&[-7, 0, 7]));
                 let wanted = if length < STUDY_LENGTH { WRONG_FORM } else { numbered };

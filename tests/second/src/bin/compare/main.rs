@@ -2,13 +2,16 @@
 //! sound and damaged. A mismatch prints the whole input and ends its test; the last line counts the tests.
 //!
 //! Run: LTD_LIB_DIR=(the directory of libc_file.a and libc_abi.a) cargo run --release --features first --bin compare [-- TEXT]
-//! With TEXT only the tests run whose name has it.
+//! With TEXT only the tests run whose name has it. The features first_prepared_corrected and first_durations add the tests of the
+//! calls that the libraries must then have: runs with corrections and a prepared table, and sums by duration.
 
 mod benefits;
 mod blocks;
 mod cells;
 mod codes;
 mod corrections;
+#[cfg(feature = "first_durations")]
+mod durations;
 mod faults;
 mod figures;
 mod file_runs;
@@ -21,11 +24,15 @@ mod one_input;
 mod open_and_add;
 mod pools;
 mod prepared;
+#[cfg(feature = "first_prepared_corrected")]
+mod prepared_corrections;
+mod prepared_studies;
 mod reserve_limit;
 mod short_lists;
 mod small_company;
 mod studies;
 mod valuation;
+mod version;
 mod wanted_count;
 mod windows;
 mod withdraw;
@@ -73,6 +80,12 @@ const SUBJECTS: &[&[Test]] = &[
     small_company::TESTS,
     loads::TESTS,
     corrections::TESTS,
+    version::TESTS,
+    prepared_studies::TESTS,
+    #[cfg(feature = "first_prepared_corrected")]
+    prepared_corrections::TESTS,
+    #[cfg(feature = "first_durations")]
+    durations::TESTS,
 ];
 
 fn main() {

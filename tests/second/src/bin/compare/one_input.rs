@@ -100,7 +100,7 @@ impl Item for f64 {
 }
 
 /// What a list of `length` items holds before a call.
-fn pattern<T: Item>(length: usize) -> Vec<T> {
+pub fn pattern<T: Item>(length: usize) -> Vec<T> {
     (0..length as u64).map(|i| T::of_bits(0xa5c3_96e1_7b2d_4f08 ^ i.wrapping_mul(0x0101_0101_0101_0101))).collect()
 }
 
@@ -143,13 +143,13 @@ impl Answer for u64 {
 }
 
 /// The refusals that leave a lent list as it was: all of them, but of an opening and a file run 255 alone.
-type Leaves = fn(u8) -> bool;
+pub type Leaves = fn(u8) -> bool;
 const EACH: Leaves = |refusal| refusal != 0;
-const ONLY_WRONG_FORM: Leaves = |refusal| refusal == WRONG_FORM;
+pub const ONLY_WRONG_FORM: Leaves = |refusal| refusal == WRONG_FORM;
 
 /// Lends each call a list of its own that holds `before`; answers and lists must be the same, and left as they were where `leaves` says
 /// so, also where both would err alike. Hands back the first one's.
-fn compare_lent<A: Answer, T: Item>(
+pub fn compare_lent<A: Answer, T: Item>(
     before: &[T],
     first: impl FnOnce(&mut [T]) -> A,
     second: impl FnOnce(&mut [T]) -> A,
@@ -237,7 +237,12 @@ pub fn compare_corrected_run(file: &[u8], rates: &[u32]) -> Result<[i64; RUN_LEN
 /// The study of a file with rates or a prepared table.
 pub type FirstRun = fn(&[u8], &[u32], &mut [i64]) -> u8;
 
-fn compare_runs(file: &[u8], table: &[u32], first: FirstRun, second: fn(&[u8], &[u32]) -> FileRun) -> Result<[i64; RUN_LENGTH], String> {
+pub fn compare_runs(
+    file: &[u8],
+    table: &[u32],
+    first: FirstRun,
+    second: fn(&[u8], &[u32]) -> FileRun,
+) -> Result<[i64; RUN_LENGTH], String> {
     let (_, numbers) = compare_lent(
         &pattern(RUN_LENGTH + 2),
         |out| first(file, table, out),
@@ -280,12 +285,12 @@ pub type Move = fn(&mut [i64], &[u8], &[u32]) -> Result<u8, String>;
 
 /// Adds with both to a study of any numbers, which may be longer or shorter than asked for and has the first one's numbers afterwards.
 pub fn compare_add(study: &mut [i64], record: &[u8], rates: &[u32]) -> Result<u8, String> {
-    compare_move("added to", study, record, rates, ffi::add, |study, claim, rates| study.add(claim, rates))
+    compare_move("added to", study, record, rates, ffi::add, |study, claim, rates| study.add(claim, &RateTable::new(rates)))
 }
 
 /// Withdraws with both, as `compare_add` adds.
 pub fn compare_withdraw(study: &mut [i64], record: &[u8], rates: &[u32]) -> Result<u8, String> {
-    compare_move("withdrawn from", study, record, rates, ffi::withdraw, |study, claim, rates| study.withdraw(claim, rates))
+    compare_move("withdrawn from", study, record, rates, ffi::withdraw, |study, claim, rates| study.withdraw(claim, &RateTable::new(rates)))
 }
 
 /// Joins `other` to a study with both; either may have any numbers, and be longer or shorter than asked for. The study has the first one's
@@ -299,8 +304,8 @@ pub fn compare_join(study: &mut [i64], other: &[i64]) -> Result<u8, String> {
             let (Some(numbers), Some(other)) = (study.first_chunk_mut::<STUDY_LENGTH>(), other.first_chunk::<STUDY_LENGTH>()) else {
                 return WRONG_FORM;
             };
-            let (Some(mut sum), Some(other)) = (Study::of_numbers(numbers), Study::of_numbers(other)) else { return WRONG_FORM };
-            let joined = sum.join(&other);
+            let mut sum = Study::of_numbers(numbers);
+            let joined = sum.join(&Study::of_numbers(other));
             if joined.is_ok() {
                 *numbers = sum.numbers();
             }
@@ -314,28 +319,29 @@ pub fn compare_join(study: &mut [i64], other: &[i64]) -> Result<u8, String> {
     Ok(answer)
 }
 
-fn compare_move(
+/// Moves with both, `table` being the rates or a prepared table.
+pub fn compare_move(
     what: &str,
     study: &mut [i64],
     record: &[u8],
-    rates: &[u32],
+    table: &[u32],
     first: fn(&mut [i64], &[u8], &[u32]) -> u8,
-    second: fn(&mut Study, &Claim, &RateTable) -> Result<(), Refusal>,
+    second: fn(&mut Study, &Claim, &[u32]) -> Result<(), Refusal>,
 ) -> Result<u8, String> {
     let (answer, moved) = compare_lent(
         study,
-        |study| first(study, record, rates),
+        |study| first(study, record, table),
         |study| {
-            let Some(numbers) = study.first_chunk_mut::<STUDY_LENGTH>() else { return WRONG_FORM };
-            let (Some(mut sum), Some(claim)) = (Study::of_numbers(numbers), read_claim(record)) else { return WRONG_FORM };
-            let moved = second(&mut sum, &claim, &RateTable::new(rates));
+            let (Some(numbers), Some(claim)) = (study.first_chunk_mut::<STUDY_LENGTH>(), read_claim(record)) else { return WRONG_FORM };
+            let mut sum = Study::of_numbers(numbers);
+            let moved = second(&mut sum, &claim, table);
             if moved.is_ok() {
                 *numbers = sum.numbers();
             }
             answer(&moved)
         },
         EACH,
-        || format!("{what} the study {study:?}\n{}rates {}", described(record), list(rates)),
+        || format!("{what} the study {study:?}\n{}table {}", described(record), list(table)),
     )?;
     study.copy_from_slice(&moved);
     Ok(answer)

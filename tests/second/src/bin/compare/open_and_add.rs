@@ -2,14 +2,14 @@
 
 use crate::inputs::{sound_claims, STUDY_WINDOW};
 use crate::one_input::{compare_add, compare_open, compare_read_window, same, BENEFIT, BLOCK, FULL, WRONG_FORM};
-use crate::studies::{any_claim, any_numbers, is_unsigned, most_at, outside_fields, passing_study, wrong_form};
+use crate::studies::{about_bounds, any_claim, any_numbers, is_unsigned, most_at, passing_study, wrong_form};
 use crate::{test, Outcome, Test};
 use second::block::{claim_record, seal, write_block, write_window, BLOCK_LENGTH};
 use second::calendar::Date;
 use second::claim::Claim;
 use second::generate::{damage_file, damage_rates, sound_claim, sound_rates, sound_window, wild_date};
 use second::rng::Rng;
-use second::study::STUDY_LENGTH;
+use second::study::{MOST_CLAIMS, STUDY_LENGTH};
 
 pub const TESTS: &[Test] = &[
     test("opening: sound and wild dates", 39, opening),
@@ -17,7 +17,7 @@ pub const TESTS: &[Test] = &[
     test("adding: claims one after another", 41, adding),
     test("adding: to a study with any numbers", 42, to_any_numbers),
     test("adding: at each bound of check 9", 43, at_bounds),
-    test("adding: numbers outside their fields", 44, |rng| outside_fields(rng, compare_add)),
+    test("adding: numbers about their bounds, and the order of the checks", 44, about_their_bounds),
     test("adding: records and lists that have not the form asked for", 45, |rng| wrong_form(rng, compare_add, 0)),
     test("windows of block 0: sound and damaged", 47, read_windows),
 ];
@@ -103,6 +103,10 @@ fn adding(rng: &mut Rng) -> Outcome {
 /// Every answer is had often.
 fn to_any_numbers(rng: &mut Rng) -> Outcome {
     any_numbers(rng, compare_add, &[0, 1, 2, 3, 4, 5, 6, 7, 8, FULL, BENEFIT, WRONG_FORM])
+}
+
+fn about_their_bounds(rng: &mut Rng) -> Outcome {
+    about_bounds(rng, compare_add, MOST_CLAIMS as i64 - 1, |_| &[0])
 }
 
 /// Each number at its bound and just beyond, the others within theirs.

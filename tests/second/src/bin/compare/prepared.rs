@@ -27,7 +27,7 @@ pub const TESTS: &[Test] = &[
 ];
 
 /// The numbers of cells and a last one.
-fn table_of(cells: &[u32], last: u32) -> Vec<u32> {
+pub fn table_of(cells: &[u32], last: u32) -> Vec<u32> {
     [cells, &[last]].concat()
 }
 
@@ -160,7 +160,7 @@ fn each_duration(rng: &mut Rng) -> Outcome {
 }
 
 /// A file of some claims, now and then of a cell that a table of `cells` cells has not.
-fn any_file(rng: &mut Rng, cells: usize) -> Vec<u8> {
+pub fn any_file(rng: &mut Rng, cells: usize) -> Vec<u8> {
     let count = rng.range(1, 4) as usize;
     let mut claims = sound_claims(rng, count, cells);
     let window = sound_window(rng, &claims[0]);
@@ -233,7 +233,7 @@ fn other_tables(rng: &mut Rng) -> Outcome {
 }
 
 /// Numbers of a cell that no preparing makes, up and down and of any size; the first one about what check 8 asks of it.
-fn any_sums(rng: &mut Rng) -> Vec<u32> {
+pub fn any_sums(rng: &mut Rng) -> Vec<u32> {
     let step = rng.pick(&[1, 1_000, 1_000_000, 1 << 31]);
     let walked = rng.one_in(2);
     let mut number = rng.bits() as u32;

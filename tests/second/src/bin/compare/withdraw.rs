@@ -3,7 +3,7 @@
 use crate::faults::{Faulty, FAULTS};
 use crate::inputs::sound_claims;
 use crate::one_input::{compare_add, compare_open, compare_withdraw, had_often, same, BENEFIT, FULL, NOT_TAKEN, WRONG_FORM};
-use crate::studies::{any_claim, any_numbers, is_unsigned, most_at, outside_fields, passing_study, wrong_form};
+use crate::studies::{about_bounds, any_claim, any_numbers, is_unsigned, most_at, passing_study, wrong_form, ENOUGH, PAST};
 use crate::windows::parts;
 use crate::{test, Outcome, Test};
 use second::block::claim_record;
@@ -22,7 +22,7 @@ pub const TESTS: &[Test] = &[
     test("withdrawing: about the least and the most claims taken", 94, claims_taken),
     test("withdrawing: each closing about nothing", 95, closings),
     test("withdrawing: the order of the checks", 96, check_order),
-    test("withdrawing: numbers outside their fields", 97, |rng| outside_fields(rng, compare_withdraw)),
+    test("withdrawing: numbers about their bounds, and the order of the checks", 97, about_their_bounds),
     test("withdrawing: records and lists that have not the form asked for", 98, |rng| wrong_form(rng, compare_withdraw, NOT_TAKEN)),
 ];
 
@@ -159,6 +159,20 @@ fn from_any_numbers(rng: &mut Rng) -> Outcome {
     any_numbers(rng, compare_withdraw, &[0, 1, 2, 3, 4, 5, 6, 7, 8, FULL, BENEFIT, NOT_TAKEN, WRONG_FORM])
 }
 
+/// What may follow check 9: 18 where no claim is taken, and where there are few closings, by the claim.
+pub fn after_check_9(study: &[i64]) -> &'static [u8] {
+    let few = |place: usize| is_unsigned(place) && study[place] < ENOUGH;
+    match study[2] {
+        0 => &[NOT_TAKEN],
+        _ if (SUMS_AT..STUDY_LENGTH).any(few) => &[0, NOT_TAKEN],
+        _ => &[0],
+    }
+}
+
+fn about_their_bounds(rng: &mut Rng) -> Outcome {
+    about_bounds(rng, compare_withdraw, MOST_CLAIMS as i64, after_check_9)
+}
+
 /// A study that a claim can be withdrawn from, with all that it may have in the way of closings.
 fn rich_study(rng: &mut Rng, claim: &Claim) -> Vec<i64> {
     let mut study = passing_study(rng, claim);
@@ -205,7 +219,9 @@ fn claims_taken(rng: &mut Rng) -> Outcome {
         let claim = sound_claims(rng, 1, 1)[0];
         let rich = rich_study(rng, &claim);
         let most = MOST_CLAIMS as i64;
-        for (taken, wanted) in [(0, NOT_TAKEN), (1, 0), (2, 0), (most - 1, 0), (most, 0), (most + 1, FULL), ((1 << 32) - 1, FULL)] {
+        let mut cases = vec![(0, NOT_TAKEN), (1, 0), (2, 0), (most - 1, 0), (most, 0), (most + 1, FULL), (PAST - 1, FULL)];
+        cases.extend([-1, -most, -PAST, PAST, PAST + 5, i64::MIN, i64::MAX].map(|taken| (taken, FULL)));
+        for (taken, wanted) in cases {
             let mut study = rich.clone();
             study[2] = taken;
             same(compare_withdraw(&mut study, &claim_record(&claim), &rates)?, wanted, || format!("{claim} of {taken} claims"))?;
