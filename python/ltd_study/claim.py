@@ -2,10 +2,9 @@
 
 import struct
 from dataclasses import dataclass, fields
-from datetime import date
-from typing import Dict, Union
+from typing import Callable, Dict, Union
 
-from .dates import DateLike, NoDate, number_of, of_number, parsed
+from .dates import DateLike, RecordDate, is_missing, number_of, of_number, record_date
 from .library import fits
 
 RECORD = struct.Struct("<IIIIIBBHB7x")
@@ -33,7 +32,7 @@ class Claim:
     cell         picks the rates
     benefit      monthly benefit in hundreds of dollars, 1 to 200; 0 weighs as 1
 
-    Dates may be given as ISO text, status and code as words:
+    Dates may be given as ISO text or timestamps, status and code as words; NaT, NaN and None are no date, and no code:
 
     >>> Claim(17, "2009-03-13", "2009-06-11", "2012-04-29", status="closed", code="recovery").termination
     datetime.date(2012, 4, 29)
@@ -50,16 +49,11 @@ class Claim:
     benefit: int = 0
 
     def __post_init__(self) -> None:
-        for name in ("disability", "bcd", "termination", "maximum"):
-            when = getattr(self, name)
-            if isinstance(when, str):
-                object.__setattr__(self, name, parsed(when))
-            elif not (when is None or isinstance(when, (date, NoDate))):
-                raise ValueError(f"{name} must be a date, an ISO text or None, not {when!r}")
-        object.__setattr__(self, "status", _number(self.status, STATUS_NUMBERS, "status"))
-        object.__setattr__(self, "code", _number(self.code, CODE_NUMBERS, "code"))
-        for name, bits in (("number", 32), ("status", 8), ("code", 8), ("cell", 16), ("benefit", 8)):
-            fits(name, getattr(self, name), bits)
+        for name, read in READERS.items():
+            given = getattr(self, name)
+            found = read(given)
+            if found is not given:
+                object.__setattr__(self, name, found)
 
     @property
     def record(self) -> bytes:
@@ -88,13 +82,47 @@ class Claim:
 COLUMNS = tuple(field.name for field in fields(Claim))
 """number, disability, bcd, termination, maximum, status, code, cell, benefit: as in the claim's CSV."""
 
+BITS: Dict[str, int] = {"number": 32, "status": 8, "code": 8, "cell": 16, "benefit": 8}
+"""Of each field that is no date."""
 
-def _number(value: Union[int, str], numbers: Dict[str, int], name: str) -> int:
-    if isinstance(value, str):
-        if value not in numbers:
-            raise ValueError(f"{name} '{value}' is none of {', '.join(numbers)}")
-        return numbers[value]
-    return value
+
+def _date_reader(name: str) -> Callable[[object], RecordDate]:
+    def read(when: object) -> RecordDate:
+        try:
+            return record_date(when)
+        except ValueError as error:
+            raise ValueError(f"{name}: {error}") from None
+
+    return read
+
+
+def _number_reader(name: str) -> Callable[[object], int]:
+    return lambda value: fits(name, value, BITS[name])  # type: ignore[arg-type]
+
+
+def _status(value: object) -> int:
+    return _worded("status", value, STATUS_NUMBERS)
+
+
+def _code(value: object) -> int:
+    return 0 if is_missing(value) else _worded("code", value, CODE_NUMBERS)
+
+
+def _worded(name: str, value: object, numbers: Dict[str, int]) -> int:
+    if not isinstance(value, str):
+        return fits(name, value, BITS[name])  # type: ignore[arg-type]
+    if value not in numbers:
+        raise ValueError(f"{name} '{value}' is none of {', '.join(numbers)}")
+    return numbers[value]
+
+
+READERS: Dict[str, Callable[[object], object]] = {
+    **{name: _date_reader(name) for name in ("disability", "bcd", "termination", "maximum")},
+    **{name: _number_reader(name) for name in ("number", "cell", "benefit")},
+    "status": _status,
+    "code": _code,
+}
+"""What a field is, however it was given. Each raises ValueError with the field's name."""
 
 
 def record_of(claim: Union[Claim, bytes]) -> bytes:

@@ -1,11 +1,12 @@
 """The claim file: blocks of 512 bytes, read, written and studied."""
 
 import ctypes
+import io
 import struct
 from pathlib import Path
 from typing import BinaryIO, Collection, Dict, Iterable, Iterator, NamedTuple, Tuple, Union
 
-from .claim import RECORD_LENGTH, Claim
+from .claim import RECORD_LENGTH, Claim, record_of
 from .dates import DateLike, RecordDate, number_of, of_number
 from .library import calls
 from .rates import Rates
@@ -59,6 +60,13 @@ class ClaimFile:
     def read(cls, path: Union[str, Path]) -> "ClaimFile":
         """The file of a path."""
         return cls(Path(path).read_bytes())
+
+    @classmethod
+    def of(cls, first: DateLike, last: DateLike, claims: Iterable[Union[Claim, bytes]]) -> "ClaimFile":
+        """The file of a window and claims, held in memory; Claims are taken as they are. Refused under 1 or 11."""
+        out = io.BytesIO()
+        write_claims(out, first, last, map(record_of, claims))
+        return cls(out.getvalue())
 
     @property
     def last_block(self) -> int:
@@ -171,9 +179,14 @@ def last_places(file: ClaimFile) -> Dict[int, Tuple[int, int]]:
     return {number: (block, place) for block, place, number in _numbers(file)}
 
 
+def record_count(file: ClaimFile) -> int:
+    """How many records there are in sound blocks."""
+    return sum(1 for _ in _numbers(file))
+
+
 def too_many_to_correct(file: ClaimFile) -> bool:
     """Whether the file has more records than a run with corrections takes."""
-    return sum(1 for _ in _numbers(file)) > MOST_RECORDS_CORRECTED
+    return record_count(file) > MOST_RECORDS_CORRECTED
 
 
 def repeated_numbers(file: ClaimFile) -> Collection[int]:

@@ -30,7 +30,7 @@ RecordDate = Union[date, NoDate, None]
 """What stands in a record: a date, no date, or None for a missing one."""
 
 DateLike = Union[RecordDate, str]
-"""The same, or an ISO date as text; an empty text is a missing date."""
+"""The same, or an ISO date as text; an empty text is a missing date. Timestamps of pandas and numpy, NaT and NaN are taken too."""
 
 
 def parsed(text: str) -> Optional[date]:
@@ -45,10 +45,35 @@ def parsed(text: str) -> Optional[date]:
         raise ValueError(f"{text!r} is not in the calendar") from None
 
 
+def is_missing(value: object) -> bool:
+    """Whether a value is None, NaN, NaT or NA; all but None are known by not being equal to themselves."""
+    if value is None:
+        return True
+    try:
+        return bool(value != value)
+    except TypeError:
+        # NA of pandas is neither equal to itself nor not.
+        return str(value) == "<NA>"
+
+
+def record_date(when: object) -> RecordDate:
+    """What a record has for a date in any form: a timestamp has its day, NaT and NaN are missing. Raises ValueError with the reason."""
+    if type(when) is date or when is None or isinstance(when, NoDate):
+        return when
+    if isinstance(when, str):
+        return parsed(when)
+    if is_missing(when):
+        return None
+    # numpy's datetime64 has no year of its own.
+    plain = when.astype("datetime64[D]").item() if getattr(getattr(when, "dtype", None), "kind", "") == "M" else when  # type: ignore[attr-defined]
+    if not all(hasattr(plain, part) for part in ("year", "month", "day")):
+        raise ValueError(f"{when!r} is no date, ISO text or None")
+    return date(plain.year, plain.month, plain.day)
+
+
 def number_of(when: DateLike) -> int:
     """A date as one number of 32 bits, 0 for a missing one."""
-    if isinstance(when, str):
-        when = parsed(when)
+    when = record_date(when)
     if when is None:
         return MISSING
     if not (0 <= when.year <= 0xFFFF and 0 <= when.month <= 0xFF and 0 <= when.day <= 0xFF):

@@ -19,8 +19,7 @@ def load(seed: int, size: int) -> Iterator[Claim]:
 
 def load_records(seed: int, size: int) -> Iterator[bytes]:
     """As load, each claim as its record."""
-    fits("seed", seed, 32)
-    fits("size", size, 32)
+    seed, size = fits("seed", seed, 32), fits("size", size, 32)
     # Seed and size are refused here and not at the first claim asked for; a load of no claims has no step of its own.
     _step(seed, max(size, 1), 1, (ctypes.c_uint32 * 1)(), ctypes.create_string_buffer(RECORD_LENGTH))
     return _records(seed, size)

@@ -115,7 +115,7 @@ class Study:
 
     def try_add(self, claim: Union[Claim, bytes], rates: Rates) -> int:
         """Adds a claim and answers 0, or the number refused."""
-        return self._change(calls().ltd_add, claim, rates)
+        return self._change(calls().ltd_prepared_add, calls().ltd_add, claim, rates)
 
     def add_all(self, claims: Iterable[Union[Claim, bytes]], rates: Rates) -> List[int]:
         """Adds claims one after the other, past those that are refused, and answers 0 or the number refused of each."""
@@ -127,11 +127,14 @@ class Study:
 
     def try_withdraw(self, claim: Union[Claim, bytes], rates: Rates) -> int:
         """Takes a claim back and answers 0, or the number refused."""
-        return self._change(calls().ltd_withdraw, claim, rates)
+        return self._change(calls().ltd_prepared_withdraw, calls().ltd_withdraw, claim, rates)
 
-    def _change(self, call: Callable[..., int], claim: Union[Claim, bytes], rates: Rates) -> int:
+    def _change(self, prepared_call: Callable[..., int], plain_call: Callable[..., int], claim: Union[Claim, bytes], rates: Rates) -> int:
+        """Changes the study with the prepared table, or with the rates where none can be prepared of them: the engine answers alike."""
         record = record_of(claim)
-        answer = call(self._list, STUDY_LENGTH, record, len(record), *rates.lent)
+        table = rates.prepared
+        call, lent = (plain_call, rates.lent) if table is None else (prepared_call, table.lent)
+        answer = call(self._list, STUDY_LENGTH, record, len(record), *lent)
         if answer == BAD_FORM:
             must_be_taken(answer)
         return answer

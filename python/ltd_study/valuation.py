@@ -1,7 +1,8 @@
 """z, m and T, valuation rates, reserve factors, the limit on reserves and the count that reaches a wanted T. All in millionths."""
 
 import ctypes
-from typing import Iterable, NamedTuple, Sequence, Tuple
+from collections.abc import Iterable
+from typing import NamedTuple, Sequence, Tuple
 
 from .library import calls, fits, u64_list
 from .rates import Rates
@@ -76,10 +77,18 @@ def reserve_limit(
     Where the total with the given T is less than that with the replaced ones, the replaced T are returned, else the given.
     Refused under 6 to 8, 12, 13 or 17.
     """
-    claims = [fits("an open claim's number", number, 32) for claim in open_claims for number in claim]
+    claims = [fits("an open claim's number", number, 32) for claim in map(_triple, open_claims) for number in claim]
     lent_claims = (ctypes.c_uint32 * len(claims))(*claims)
     five, t_out, totals = u64_list("t", t), (ctypes.c_uint64 * 5)(), (ctypes.c_double * 2)()
     arguments = five, len(five), fits("group_3_count", group_3_count, 64), v
     lists = t_out, len(t_out), totals, len(totals)
     must_be_taken(calls().ltd_reserve_limit(*rates.lent, lent_claims, len(claims), *arguments, *lists))
     return ReserveLimit(tuple(t_out), totals[0], totals[1])
+
+
+def _triple(claim: Iterable[int]) -> Tuple[int, ...]:
+    # The engine sees one list of numbers: claims of another length would shift into one another.
+    numbers = tuple(claim) if isinstance(claim, Iterable) else ()
+    if len(numbers) != 3:
+        raise ValueError(f"an open claim is cell, next duration and months left, not {claim!r}")
+    return numbers

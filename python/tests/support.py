@@ -1,17 +1,19 @@
 """What the tests share: random claims and rates, files of them, and the command run as a user runs it."""
 
 import csv
+import hashlib
 import io
 import os
 import random
 import subprocess
 import sys
 import tempfile
+import time
 import unittest
 from contextlib import redirect_stderr, redirect_stdout
 from datetime import date, timedelta
 from pathlib import Path
-from typing import Dict, Iterable, List, NamedTuple, Optional, Sequence
+from typing import Any, Callable, Dict, Iterable, List, NamedTuple, Optional, Sequence, Tuple
 
 from ltd_study import Claim, ClaimFile, NoDate, Rates, write_claims
 from ltd_study.claim import COLUMNS
@@ -20,7 +22,7 @@ from ltd_study.desk.command import main
 from ltd_study.rates import DURATIONS
 
 ROOT = Path(__file__).resolve().parents[2]
-LTD = ROOT / "ltd"
+LTD = ROOT / "python" / "ltd.py"
 PORTFOLIO = ROOT / "examples" / "portfolio"
 SECOND_STUDY = Path(os.environ.get("LTD_SECOND_STUDY", ROOT / "target" / "second" / "release" / "second_study"))
 WINDOW = (date(2009, 1, 1), date(2017, 12, 31))
@@ -63,7 +65,7 @@ class DeskTest(unittest.TestCase):
         return Ended(found, *texts)
 
     def process(self, *words: object, status: Optional[int] = 0, env: Optional[Dict[str, str]] = None) -> Ended:
-        """Runs ./ltd in the test's folder, as a user does; its status must be the one given."""
+        """Runs what ./ltd runs in the test's folder, as a user does; its status must be the one given."""
         run = subprocess.run(
             [sys.executable, str(LTD), *map(str, words)],
             cwd=self.folder,
@@ -92,12 +94,26 @@ class DeskTest(unittest.TestCase):
         """A claim file in the test's folder."""
         return self.file(name, claim_file(claims, window).data)
 
+    def belongs(self, name: str) -> None:
+        """Says of what stands beside a claim file that it is of this file, as 'pack --map' does."""
+        self.file(f"{name}.how.toml", f'sha256 = "{hashlib.sha256((self.folder / name).read_bytes()).hexdigest()}"\n')
+
     def example(self) -> None:
         """The portfolio's files, packed by the command."""
         window = ("--window", "2010-03-01", "2014-12-31")
         for name in ("claims", "affiliate", "faulty"):
             self.ltd("pack", PORTFOLIO / f"{name}.csv", f"{name}.claims", *window)
         self.ltd("rates", "pack", PORTFOLIO / "rates.csv", "rates.bin")
+
+
+def least_time(work: Callable[[], Any], tries: int = 3) -> Tuple[float, Any]:
+    """The least of the processor's own time that work took, and what it gave: other work on the machine makes it seem longer."""
+    taken = []
+    for _ in range(tries):
+        start = time.process_time()
+        found = work()
+        taken.append(time.process_time() - start)
+    return min(taken), found
 
 
 def claim_file(claims: Iterable[Claim], window: Sequence[object] = WINDOW) -> ClaimFile:

@@ -203,6 +203,12 @@ class Requests(unittest.TestCase):
         self.assertEqual(reserve_limit(RATES, [], high, 10, 0.99), (tuple(high), 0.0, 0.0))
         with self.assertRaisesRegex(Refused, "17 .open claims"):
             reserve_limit(RATES, [(0, 24, 120)], high, 10, 0.99)
+        # As one list these would be read as other claims.
+        for claims in ([(0, 30), (120, 0, 200, 60)], [(0, 30, 120, 0)], [()], [7], ["abc"], [(0, 30, 120), None]):
+            with self.assertRaises(ValueError) as caught:
+                reserve_limit(RATES, claims, high, 10, 0.99)  # type: ignore[arg-type]
+            self.assertNotIsInstance(caught.exception, Refused)
+        self.assertEqual(reserve_limit(RATES, [[0, 30, 120]], high, 10, 0.99).t[2], 1_300_000)  # type: ignore[list-item]
 
     def test_small_companies(self) -> None:
         recent = [Claim(i, "2015-06-01", "2015-08-30") for i in range(50)]

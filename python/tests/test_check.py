@@ -4,15 +4,16 @@ import csv
 import io
 import random
 import subprocess
-from typing import List, Tuple
+from typing import Dict, List, Tuple
 from unittest import mock
 
-from ltd_study import Claim, ClaimFile, Rates, Study, file_study
+from ltd_study import Claim, ClaimFile, NoDate, Rates, Study, file_study
 from ltd_study.claim_file import BLOCK_LENGTH, claim_block
 from ltd_study.desk import checking
+from ltd_study.desk.broken_rules import broken_rule
 from ltd_study.desk.checking import Checked
 
-from .support import SECOND_STUDY, WINDOW, DeskTest, any_claim, any_rates, claim_file, sound_claim
+from .support import PORTFOLIO, SECOND_STUDY, WINDOW, DeskTest, any_claim, any_rates, claim_file, sound_claim
 
 MOST_IN_BLOCK = 15
 
@@ -125,15 +126,118 @@ class FaultsOfTheFile(DeskTest):
         self.assertEqual(found(claim_file([claim] * 60_000), self.rates, corrected=True), [])
 
 
+class Rules(DeskTest):
+    """The rule of each number in words, with the fields that break it."""
+
+    def why(self, number: int, rates: Rates = Rates.flat(1, 1), **fields: object) -> str:
+        """The words of a claim that is sound but for some fields; the engine refuses it under the number."""
+        sound = {"number": 1, "disability": "2010-12-01", "bcd": "2011-03-01", "termination": "2012-02-01", "status": 1, "code": 1}
+        claim = Claim(**{**sound, **fields})  # type: ignore[arg-type]
+        self.assertEqual(Study.open(*WINDOW).try_add(claim, rates), number)
+        return broken_rule(claim, number, rates)
+
+    def test_dates(self) -> None:
+        self.assertEqual(self.why(2, disability=None), "disability is missing")
+        both = "disability 2001-02-29 is no date; BCD 2100-01-01 is not in 1950-01-01 to 2099-12-31"
+        self.assertEqual(self.why(2, disability=NoDate(2001, 2, 29), bcd="2100-01-01"), both)
+        self.assertEqual(self.why(2, termination=None), "termination of a closed claim is missing")
+        self.assertEqual(self.why(2, maximum=NoDate(2010, 13, 1)), "maximum 2010-13-01 is no date")
+
+    def test_status(self) -> None:
+        self.assertEqual(self.why(3, status=2), "status 2 is neither 0 (open) nor 1 (closed)")
+        self.assertEqual(self.why(3, status=0), "an open claim has code recovery; an open claim has termination 2012-02-01")
+        self.assertEqual(self.why(3, code=0), "a closed claim has code none")
+        self.assertEqual(self.why(3, code=7), "a closed claim has code 7")
+
+    def test_sequence(self) -> None:
+        self.assertEqual(self.why(4, termination="2011-02-01"), "termination 2011-02-01 is before BCD 2011-03-01")
+        both = "BCD 2010-11-30 is before disability 2010-12-01; termination 2010-11-29 is before BCD 2010-11-30"
+        self.assertEqual(self.why(4, bcd="2010-11-30", termination="2010-11-29"), both)
+        self.assertEqual(self.why(4, disability="2012-01-01", bcd="2011-01-01"), "BCD 2011-01-01 is before disability 2012-01-01")
+
+    def test_the_rate_table(self) -> None:
+        self.assertEqual(self.why(6, Rates([1] * 957)), "the rate table has 957 numbers, and not 958 for each of 1 to 1,024 cells")
+        numbers = list(Rates.flat(1, 1, 2).numbers)
+        numbers[958 + 7] = 1_000_000
+        words = "recovery and death of cell 1, duration 9 are 1,000,001 millionths together, over 1,000,000"
+        self.assertEqual(self.why(8, Rates(numbers), cell=1), words)
+
+    def test_every_refusal_of_random_claims_has_words(self) -> None:
+        rng = random.Random(99)
+        numbers = list(any_rates(rng, 4).numbers)
+        numbers[2 * 958 + 7] = 1_000_001
+        refusals = list(Checked(claim_file([any_claim(rng, i, 4) for i in range(2000)]), Rates(numbers)).refusals())
+        self.assertGreater(len(refusals), 1000)
+        self.assertEqual([found for found in refusals if not found.why], [])
+
+    def test_faults_of_the_file(self) -> None:
+        def words(data: bytes) -> List[str]:
+            return [found.why for found in Checked(ClaimFile(data), Rates.flat(1, 1)).refusals()]
+
+        self.assertEqual(words(claim_file([], ("2012-01-01", "2011-01-01")).data), ["the window's last day 2011-01-01 is before its first, 2012-01-01"])
+        self.assertEqual(words(claim_file([], (NoDate(2012, 2, 30), "2013-01-01")).data), ["the window's first day 2012-02-30 is no date"])
+        self.assertEqual(words(b""), ["the file ends 0 bytes into the block, which has 512"])
+        self.assertEqual(words(claim_file([]).data + b"part"), ["the file ends 4 bytes into the block, which has 512"])
+        self.assertEqual(words(claim_file([]).data + bytes(512)), ["the block's number, count, zero bytes or check is wrong"])
+
+
+class Lines(DeskTest):
+    """The CSV's lines, where they were kept beside the claim file."""
+
+    def setUp(self) -> None:
+        super().setUp()
+        self.example()
+        self.belongs("faulty.claims")
+        self.rows = ["block,place,line", *(f"1,{place},{10 * place}" for place in range(1, 9))]
+
+    def check(self, status: int = 1) -> List[Dict[str, str]]:
+        """The rows of check's CSV, with its notes."""
+        ended = self.ltd("check", "faulty.claims", "rates.bin", "--csv", status=status)
+        self.said = ended.err
+        return list(csv.DictReader(io.StringIO(ended.out)))
+
+    def test_lines_are_named(self) -> None:
+        self.file("faulty.claims.lines.csv", "\n".join(self.rows) + "\n")
+        self.assertEqual([(row["place"], row["line"]) for row in self.check()], [(str(place), str(10 * place)) for place in range(2, 8)])
+        self.assertRegex(self.ltd("check", "faulty.claims", "rates.bin", status=1).out, r"(?m)^ +1 +4 +40 +9004 +4  sequence")
+        (self.folder / "faulty.claims.lines.csv").unlink()
+        self.assertEqual({row["line"] for row in self.check()}, {""})
+
+    def test_lines_of_another_file(self) -> None:
+        broken = ("", "block,place\n", "\n".join(self.rows[:-1]), "\n".join([*self.rows[:-1], "1,8"]), "\n".join([*self.rows[:-1], "1,8,x"]))
+        for text in broken:
+            self.file("faulty.claims.lines.csv", text)
+            self.assertEqual({row["line"] for row in self.check()}, {""})
+            self.assertEqual(self.said, "ltd: note: 'faulty.claims.lines.csv' is not of the claim file 'faulty.claims', and no lines are named\n")
+        self.file("faulty.claims.lines.csv", "\n".join(self.rows) + "\n")
+        self.file("faulty.claims.how.toml", f'sha256 = "{"0" * 64}"\n')
+        self.assertEqual({row["line"] for row in self.check()}, {""})
+        self.assertIn("is not of the claim file 'faulty.claims'", self.said)
+
+    def test_lines_of_a_map(self) -> None:
+        """The extract's own lines: two title lines stand above the header."""
+        self.file("in.csv", "Claims\n\n" + (PORTFOLIO / "faulty.csv").read_text())
+        self.file("m.toml", self.ltd("map", "in.csv", "--title-lines", 2).out)
+        self.ltd("pack", "in.csv", "faulty.claims", "--map", "m.toml", "--window", "2010-03-01", "2014-12-31")
+        self.assertEqual([(row["place"], row["line"]) for row in self.check()], [(str(place), str(place + 3)) for place in range(2, 8)])
+
+
 class Output(DeskTest):
     """What the command prints."""
 
     def test_the_faulty_example(self) -> None:
         self.example()
         ended = self.ltd("check", "faulty.claims", "rates.bin", status=1)
-        rows = [line.split(None, 4) for line in ended.out.splitlines()]
-        self.assertIn(["1", "2", "9002", "2", "date"], rows)
-        self.assertIn(["1", "6", "9006", "5", "short elimination"], rows)
+        for row in (
+            r"1 +2 +9002 +2  date +disability 1949-12-31 is not in 1950-01-01 to 2099-12-31",
+            r"1 +3 +9003 +3  status +an open claim has termination 2011-05-05",
+            r"1 +4 +9004 +4  sequence +termination 2010-04-03 is before BCD 2010-04-04",
+            r"1 +5 +9005 +16  benefit +benefit 201 is over 200; it is in hundreds of dollars",
+            r"1 +6 +9006 +5  short elimination  BCD 2010-01-18 is 14 days after disability 2010-01-04, and 15 are the fewest",
+            r"1 +7 +9007 +7  cell +cell 2 is not in the rate table, which has cells 0 to 1",
+        ):
+            self.assertRegex(ended.out, rf"(?m)^ +{row}$")
+        self.assertNotRegex(ended.out, r"\bline\b")
         self.assertEqual(ended.out.splitlines()[-1], "6 of 8 claims would be refused.")
         self.assertEqual(self.ltd("check", "claims.claims", "rates.bin").out, "No refusal: a study takes all of the 47 claims.\n")
 

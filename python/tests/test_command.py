@@ -15,8 +15,15 @@ from ltd_study.desk.command import parser
 
 from .support import LTD, PORTFOLIO, ROOT, DeskTest
 
-COMMANDS = ("pack", "unpack", "rates", "rates pack", "rates unpack", "check", "months", "study", "years", "pool")
+COMMANDS = ("pack", "map", "unpack", "rates", "rates pack", "rates unpack", "check", "months", "study", "years", "pool")
+COMMANDS += ("total", "valuation", "reserve", "limit", "wanted", "small-company", "withdraw")
 WINDOW_WORDS = ("--window", "2010-03-01", "2014-12-31")
+
+
+def listening() -> None:
+    """In a started command: no signal is ignored, as one is where the tests run in the background or under nohup."""
+    for number in (signal.SIGINT, signal.SIGTERM, signal.SIGHUP):
+        signal.signal(number, signal.SIG_DFL)
 
 
 class Help(DeskTest):
@@ -36,7 +43,10 @@ class Help(DeskTest):
     def test_the_first_page(self) -> None:
         text = self.ltd("--help").out
         for command in COMMANDS:
-            self.assertIn(f"\n    {command.split()[0]} ", text)
+            self.assertRegex(text, rf"\n    {command.split()[0]}\s")
+
+    def test_the_limit_of_a_pool_is_documented(self) -> None:
+        self.assertIn("500,000 claims together at most", self.ltd("pool", "--help").out)
 
     def test_the_columns_are_documented(self) -> None:
         text = self.ltd("pack", "--help").out
@@ -64,10 +74,11 @@ class Endings(DeskTest):
             (("months", "nowhere", 1, 1), "there is no claim file 'nowhere'"),
             (("unpack", "nowhere"), "there is no claim file 'nowhere'"),
             (("pool", "nowhere"), "there is no saved study 'nowhere'"),
+            (("map", "nowhere"), "there is no CSV file 'nowhere'"),
             (("rates", "unpack", "nowhere"), "there is no rate table 'nowhere'"),
             (("rates", "pack", "nowhere", "y"), "there is no CSV file 'nowhere'"),
             (("pack", "nowhere", "y", *WINDOW_WORDS), "there is no CSV file 'nowhere'"),
-            (("pack", PORTFOLIO / "claims.csv", "no/where", *WINDOW_WORDS), "No such file"),
+            (("pack", PORTFOLIO / "claims.csv", "no/where", *WINDOW_WORDS), "'no/where': No such file or directory"),
             (("pack", PORTFOLIO / "claims.csv", ".", *WINDOW_WORDS), "'.' is a folder"),
         ):
             ended = self.ltd(*words, status=2)
@@ -112,8 +123,8 @@ class Endings(DeskTest):
     def test_an_ended_command_leaves_nothing(self) -> None:
         os.mkfifo(self.folder / "slow.csv")
         words = [sys.executable, str(LTD), "pack", "slow.csv", "x.claims", *WINDOW_WORDS]
-        for number, status in ((signal.SIGTERM, 143), (signal.SIGINT, 130)):
-            run = subprocess.Popen(words, cwd=self.folder, stderr=subprocess.PIPE)
+        for number, status in ((signal.SIGTERM, 143), (signal.SIGINT, 130), (signal.SIGHUP, 129)):
+            run = subprocess.Popen(words, cwd=self.folder, stderr=subprocess.PIPE, preexec_fn=listening)
             with open(self.folder / "slow.csv", "w", encoding="utf-8") as slow:
                 slow.write((PORTFOLIO / "claims.csv").read_text())
                 slow.flush()
@@ -124,6 +135,32 @@ class Endings(DeskTest):
             self.assertEqual(run.stderr.read(), b"")
             run.stderr.close()
             self.assertEqual(self.names(), ["slow.csv"])
+
+    def test_a_signal_that_is_ignored_stays_so(self) -> None:
+        os.mkfifo(self.folder / "slow.csv")
+        words = [sys.executable, str(LTD), "pack", "slow.csv", "x.claims", *WINDOW_WORDS]
+        run = subprocess.Popen(["nohup", *words], cwd=self.folder, stdin=subprocess.DEVNULL, stdout=subprocess.DEVNULL, stderr=subprocess.DEVNULL)
+        with open(self.folder / "slow.csv", "w", encoding="utf-8") as slow:
+            slow.write((PORTFOLIO / "claims.csv").read_text())
+            slow.flush()
+            self.wait_for_part()
+            run.send_signal(signal.SIGHUP)
+        self.assertEqual(run.wait(timeout=30), 0)
+        self.assertEqual(self.names(), ["slow.csv", "x.claims"])
+
+    def test_an_interrupt_at_the_start(self) -> None:
+        package = self.folder / "python" / "ltd_study"
+        package.mkdir(parents=True)
+        # In place of the package, one that is a long time in loading.
+        (package / "__init__.py").write_text("print('loading', flush=True)\nimport time\ntime.sleep(60)\n")
+        shutil.copy(LTD, package.parent)
+        words = [sys.executable, str(package.parent / LTD.name)]
+        with subprocess.Popen(words, stdout=subprocess.PIPE, stderr=subprocess.PIPE, preexec_fn=listening) as run:
+            assert run.stdout is not None and run.stderr is not None
+            self.assertEqual(run.stdout.readline(), b"loading\n")
+            run.send_signal(signal.SIGINT)
+            self.assertEqual(run.wait(timeout=30), -signal.SIGINT)
+            self.assertEqual(run.stderr.read(), b"")
 
     def wait_for_part(self) -> None:
         """Until the temporary file is there, ten seconds at most."""
@@ -161,34 +198,45 @@ class ProgressBar(DeskTest):
         self.file("many.csv", "\n".join([rows[0], *rows[1:] * 1500]))
         seen = self.seen_on_a_terminal("pack", "many.csv", "many.claims", *WINDOW_WORDS)
         self.assertRegex(seen, r"\rpacking \[#*\.*\] +\d+ %")
-        self.assertTrue(re.search(r"\r +\r$", seen))
+        self.assertTrue(re.search(r"\r +\rltd: note: 14 claim numbers stand more than once \(.*\), and every record counts; .*\r\n$", seen), seen)
         self.assertIn("checking [", self.seen_on_a_terminal("check", "many.claims", "rates.bin"))
         self.assertIn("studying the parts [", self.seen_on_a_terminal("years", "many.claims", "rates.bin"))
-        self.assertEqual(self.process("check", "many.claims", "rates.bin").err, "")
+        self.assertTrue(self.process("check", "many.claims", "rates.bin").err.startswith("ltd: note: 14 claim numbers stand more than once"))
 
 
 class Readme(DeskTest):
-    """Every command of the README's second screen runs on the made-up portfolio, and gives what it says."""
+    """Every command of README.md and docs/USING.md runs on the made-up portfolio, and gives what it says."""
 
     def setUp(self) -> None:
         super().setUp()
-        shutil.copytree(PORTFOLIO, self.folder / "examples" / "portfolio")
+        for name in ("portfolio", "extracts"):
+            shutil.copytree(ROOT / "examples" / name, self.folder / "examples" / name)
+        (self.folder / "out").mkdir()
 
-    def commands(self, path: Path) -> "list[str]":
-        """The lines of a document that run ./ltd."""
-        return re.findall(r"^ {4}(\./ltd .*?)(?: +#.*)?$", path.read_text(encoding="utf-8"), re.M)
-
-    def test_the_second_screen(self) -> None:
-        commands = self.commands(ROOT / "README.md")
-        self.assertGreaterEqual(len(commands), 4)
+    def run_commands(self, path: Path) -> "list[str]":
+        """Runs the lines of a document that run ltd; answers their first words."""
+        commands = re.findall(r"^ {4}(?:\./|bin/)ltd (.*?)(?: +#.*)?$", path.read_text(encoding="utf-8"), re.M)
         for command in commands:
-            expected = 1 if "faulty" in command and " check " in command else 0
-            line = command.replace("./ltd", f"{shlex.quote(sys.executable)} {shlex.quote(str(LTD))}", 1)
+            expected = 1 if "faulty" in command and command.startswith("check ") else 0
+            line = f"{shlex.quote(sys.executable)} {shlex.quote(str(LTD))} {command}"
             run = subprocess.run(["sh", "-c", line], cwd=self.folder, capture_output=True, text=True, timeout=60, check=False)
             self.assertEqual(run.returncode, expected, (command, run.stdout, run.stderr))
-        self.assertIn("<!DOCTYPE html>", (self.folder / "study.html").read_text(encoding="utf-8"))
-        words = {word for command in commands for word in shlex.split(command)[1:2]}
-        self.assertTrue({"pack", "rates", "check", "study", "years", "months", "pool"} <= words, words)
+        return [shlex.split(command)[0] for command in commands]
+
+    def test_the_first_screen(self) -> None:
+        self.assertEqual(self.run_commands(ROOT / "README.md"), ["pack", "rates", "study"])
+        self.assertIn("<!DOCTYPE html>", (self.folder / "out" / "study.html").read_text(encoding="utf-8"))
+        self.assertEqual(self.names(), ["examples", "out"])
+
+    def test_all_commands(self) -> None:
+        words = set(self.run_commands(ROOT / "docs" / "USING.md"))
+        self.assertEqual({command.split()[0] for command in COMMANDS} - {"reserve"}, words - {"--version"})
+        self.assertEqual(self.names(), ["examples", "out"])
+
+    def test_the_stored_study(self) -> None:
+        self.run_commands(ROOT / "README.md")
+        found = self.ltd("study", "out/portfolio.claims", "out/portfolio.rates", "--csv").out
+        self.assertEqual(found, (PORTFOLIO / "study.csv").read_text(encoding="utf-8"))
 
     def test_the_folder_explains_its_claims(self) -> None:
         text = (PORTFOLIO / "README.md").read_text(encoding="utf-8")

@@ -142,8 +142,10 @@ class BadRows(DeskTest):
         self.row("number", "9" * 5000, f"'{'9' * 40}..' is over 4,294,967,295")
         self.row("cell", "65536", "'65536' is over 65,535")
         self.row("cell", "", "is empty")
-        self.row("benefit", "256", "'256' is over 255")
-        self.row("benefit", "12.5", "'12.5' is no whole number")
+        hundreds = "a benefit is in hundreds of dollars, 1 to 200"
+        self.row("benefit", "256", f"'256' is over 255; {hundreds}")
+        self.row("benefit", "3000", f"'3000' is over 255; {hundreds}")
+        self.row("benefit", "12.5", f"'12.5' is no whole number; {hundreds}")
 
     def test_dates(self) -> None:
         self.row("disability", "2001-02-29", "'2001-02-29' is not in the calendar")
@@ -172,7 +174,7 @@ class BadRows(DeskTest):
         self.bad(
             f'{HEADER}\n{GOOD}\n1,2009-03-13,2009-06-11,2012-04-29,,closed,"reco\nvery",0,25\n{GOOD}x\n',
             "line 3, column code: 'reco\\nvery' is neither a number nor one of none, recovery, death, settlement, max-out, limit, definition",
-            "line 5, column benefit: '25x' is no whole number",
+            "line 5, column benefit: '25x' is no whole number; a benefit is in hundreds of dollars, 1 to 200",
         )
 
     def test_rows_that_are_no_csv(self) -> None:
@@ -185,8 +187,27 @@ class BadRows(DeskTest):
     def test_bytes_that_are_no_utf_8(self) -> None:
         self.bad(
             f"{HEADER}\n{GOOD}\n".encode() + GOOD.replace("recovery", "r\xe9covery").encode("latin-1") + b"\n",
-            "line 3, column code: 'r\\udce9covery' is not UTF-8",
+            "line 3, column code: 'r\xe9covery' is Latin-1 (or Windows-1252) and not UTF-8",
         )
+        self.bad(
+            f"{HEADER}\n".encode() + GOOD.replace("recovery", "\u201crecovery\u20ac").encode("cp1252") + b"\n",
+            "line 2, column code: '\u201crecovery\u20ac' is Latin-1 (or Windows-1252) and not UTF-8",
+        )
+        columns = ", ".join(COLUMNS)
+        self.bad(
+            HEADER.replace("code", "c\xf3digo").encode("latin-1"),
+            f"line 1: no such column: 'c\xf3digo' is Latin-1 (or Windows-1252) and not UTF-8; the columns are {columns}",
+            "line 1, column code: is missing",
+        )
+
+    def test_other_forms_of_a_file(self) -> None:
+        for mark, kind in ((";", "semicolons"), ("\t", "tabs"), ("|", "bars")):
+            self.bad(f"{HEADER}\n{GOOD}\n".replace(",", mark), f"line 1: the fields are separated by {kind} and not by commas")
+        for encoding in ("utf-16", "utf-16-le", "utf-16-be"):
+            self.bad(f"{HEADER}\r\n{GOOD}\r\n".encode(encoding), "line 1: the file is UTF-16 and not UTF-8: save it as UTF-8")
+        self.file("r.csv", "cell;duration;recovery;death\n")
+        ended = self.ltd("rates", "pack", "r.csv", "x.rates", status=1)
+        self.assertIn("r.csv: line 1: the fields are separated by semicolons and not by commas\n", ended.err)
 
     def test_headers(self) -> None:
         columns = ", ".join(COLUMNS)
@@ -281,6 +302,76 @@ class BadRates(DeskTest):
             f"{start} 0 for durations 2 to 3",
             decimal=True,
         )
+
+    def test_rounding(self) -> None:
+        self.rows = [row.replace("9000", "0.009").replace("1000", "0.001") for row in self.rows]
+        self.rows[1:4] = ["0,2,0.0000005,0.00000049999", "0,3,0.1234565,0.0123454999", "0,4,1.0,0.0000004"]
+        self.bad(
+            "line 2, column recovery: '0.0000005' is no whole number of millionths",
+            "line 2, column death: '0.00000049999' is no whole number of millionths",
+            "line 3, column recovery: '0.1234565' is no whole number of millionths",
+            "line 3, column death: '0.0123454999' is no whole number of millionths",
+            "line 4, column death: '0.0000004' is no whole number of millionths",
+            "line 959: up to this last line there is no row of cell 0 for durations 2 to 4",
+            decimal=True,
+        )
+        ended = self.ltd("rates", "pack", "in.csv", "x.rates", "--decimal", "--round")
+        self.assertEqual(ended.out, "x.rates: rates of 2 cells\n5 rates were rounded to the nearest millionth, halves up (--round)\n")
+        rates = Rates.read(self.folder / "x.rates")
+        found = [(rates.recovery(0, duration), rates.death(0, duration)) for duration in (2, 3, 4, 5)]
+        self.assertEqual(found, [(1, 0), (123_457, 12_345), (1_000_000, 0), (9_000, 1_000)])
+        self.rows[1] = "0,2,0.9999996,0.0000005"
+        self.file("in.csv", "\n".join(self.rows))
+        ended = self.ltd("rates", "pack", "in.csv", "y.rates", "--decimal", "--round", status=1)
+        self.assertIn("line 2: recovery and death of cell 0, duration 2 are 1,000,001 millionths together", ended.err)
+        self.rows[1] = "0,2,1.0000001,0"
+        self.file("in.csv", "\n".join(self.rows))
+        ended = self.ltd("rates", "pack", "in.csv", "y.rates", "--decimal", "--round", status=1)
+        self.assertIn("line 2, column recovery: '1.0000001' is over 1", ended.err)
+        ended = self.ltd("rates", "pack", "in.csv", "y.rates", "--round", status=2)
+        self.assertEqual(ended.err, "ltd: --round goes with --decimal: millionths are whole numbers\n")
+
+    def test_extending(self) -> None:
+        self.rows = [row for row in self.rows if not re.match(r"0,(12[1-9]|1[3-9].|[234]..),|1,480,", row)]
+        self.rows[119] = "0,120,7,8"
+        start = "line 598: up to this last line there is no row of cell"
+        self.bad(f"{start} 0 for durations 121 to 480", f"{start} 1 for duration 480")
+        ended = self.ltd("rates", "pack", "in.csv", "x.rates", "--extend-last")
+        self.assertEqual(
+            ended.out,
+            "x.rates: rates of 2 cells\n"
+            "the rates of duration 120 stand for durations 121 to 480 too (--extend-last), in cell 0\n"
+            "the rates of duration 479 stand for durations 480 to 480 too (--extend-last), in cell 1\n",
+        )
+        rates = Rates.read(self.folder / "x.rates")
+        self.assertEqual({(rates.recovery(0, duration), rates.death(0, duration)) for duration in range(120, 481)}, {(7, 8)})
+        self.assertEqual((rates.recovery(0, 119), rates.recovery(1, 480)), (9000, 9000))
+        # A gap before a cell's last duration stays a fault, and so does a cell without rows.
+        self.rows = [row for row in self.rows if not row.startswith("0,77,")] + ["3,2,1,1"]
+        self.file("in.csv", "\n".join(self.rows))
+        ended = self.ltd("rates", "pack", "in.csv", "y.rates", "--extend-last", status=1)
+        start = "ltd: in.csv: line 598: up to this last line there is no row of cell"
+        self.assertEqual(ended.err.splitlines()[:-1], [f"{start} 0 for duration 77", f"{start} 2 for durations 2 to 480"])
+
+    def test_the_page_says_what_was_done_to_rates(self) -> None:
+        self.rows = [row.replace("9000", "0.0090001").replace("1000", "0.001") for row in self.rows if not row.endswith("1,480,9000,1000")]
+        self.file("in.csv", "\n".join(self.rows))
+        self.ltd("rates", "pack", "in.csv", "x.rates", "--decimal", "--round", "--extend-last")
+        self.packed(sound_claims(random.Random(4), 20, 1))
+        notes = "957 rates were rounded to the nearest millionth", "the rates of duration 479 stand for durations 480 to 480 too"
+        for command in ("study", "years"):
+            self.ltd(command, "x.claims", "x.rates", "--html", "p.html")
+            text = (self.folder / "p.html").read_text(encoding="utf-8")
+            self.assertTrue(all(f"<p>rates: {note}" in text for note in notes), text[-3000:])
+        ended = self.ltd("rates", "pack", "in.csv", "/dev/null", "--decimal", "--round", "--extend-last", status=2)
+        self.assertEqual(ended.err, "ltd: --round and --extend-last write a file beside OUT, for the page to say so, and '/dev/null' is no file\n")
+        # Rates that were packed as they are have nothing to say, and older words go.
+        self.rows = ["cell,duration,recovery,death", *(f"0,{duration},9000,1000" for duration in range(2, 481))]
+        self.file("in.csv", "\n".join(self.rows))
+        self.ltd("rates", "pack", "in.csv", "x.rates", "--extend-last")
+        self.assertEqual(self.names(), ["in.csv", "p.html", "x.claims", "x.rates"])
+        self.ltd("study", "x.claims", "x.rates", "--html", "p.html")
+        self.assertNotIn("--extend-last", (self.folder / "p.html").read_text(encoding="utf-8"))
 
     def test_no_rows(self) -> None:
         del self.rows[1:]

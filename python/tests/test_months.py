@@ -97,7 +97,27 @@ class Output(DeskTest):
             self.assertEqual(self.ltd("months", "claims.claims", block, place, status=2).err, f"ltd: {message}\n")
         self.ltd("months", "claims.claims", "one", 1, status=2)
 
+    def test_claims_by_number(self) -> None:
+        self.assertEqual(self.ltd("months", "claims.claims", "--number", 1003).out, self.ltd("months", "claims.claims", 1, 3).out)
+        twice = "claim number 1006 stands 2 times: name one by block 1, place 6 and block 4, place 1"
+        for number, message in ((77, "there is no claim number 77"), (1006, twice)):
+            self.assertEqual(self.ltd("months", "claims.claims", "--number", number, status=2).err, f"ltd: {message}\n")
+        for words in ((), (1,), (1, 2, "--number", 1003), (1, "--number", 1003), ("--number", "-1"), ("--number", "4294967296")):
+            ended = self.ltd("months", "claims.claims", *words, status=2)
+            self.assertTrue(ended.err.startswith("usage: ltd months"), ended)
+        self.packed([self.rows_of(9)] * 40)
+        message = self.ltd("months", "x.claims", "--number", 9, status=2).err
+        self.assertIn("stands 40 times: name one by block 1, place 1 and", message)
+        self.assertTrue(message.endswith("block 1, place 5 and 35 more\n"), message)
+
+    def rows_of(self, number: int) -> Claim:
+        """A sound claim of a number."""
+        return sound_claim(random.Random(number), number)
+
     def test_refused_claims(self) -> None:
-        self.assertEqual(self.ltd("months", "faulty.claims", 1, 6, status=1).err, "ltd: 'faulty.claims': refused 5 (short elimination) at block 1, place 6\n")
+        words = "BCD 2010-01-18 is 14 days after disability 2010-01-04, and 15 are the fewest"
+        for named in ((1, 6), ("--number", 9006)):
+            ended = self.ltd("months", "faulty.claims", *named, status=1)
+            self.assertEqual(ended.err, f"ltd: 'faulty.claims': refused 5 (short elimination) at block 1, place 6: {words}\n")
         ended = self.ltd("months", "claims.claims", 1, 1, "--window", "2012-01-01", "2011-01-01", status=1)
         self.assertIn("refused 1 (window)", ended.err)

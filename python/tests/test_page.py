@@ -1,14 +1,17 @@
 """The page: parsed, whole, without network or script, and with every figure of the tables."""
 
+import hashlib
 import random
 import re
 import xml.etree.ElementTree as ElementTree
+from datetime import date
 from html.parser import HTMLParser
 from typing import Dict, List, Optional, Tuple
 
-from ltd_study import GroupSums, Study, file_study
+from ltd_study import Claim, GroupSums, Study, factor, file_study, library
 from ltd_study.desk import figures
 from ltd_study.desk.parts import calendar_years, divide
+from ltd_study.desk.ratios import ratios_of
 from ltd_study.desk.reports import closings_table, study_tables, years_tables
 from ltd_study.desk.tables import Table
 
@@ -140,27 +143,36 @@ class Pages(DeskTest):
         self.is_self_contained(page)
         self.colours_are_defined(page)
         self.same_tables(page, study_tables(study, True))
-        self.assertEqual(len(page.tables), 6)
+        self.assertEqual(len(page.tables), 8)
         self.every_figure(page, study)
         self.figures_stand_under_their_headings(page, study)
         headings = {heading for head, *_ in page.tables.values() for heading in head} - {"group", "durationsmonths"}
         self.assertEqual(headings, set(self.by_heading(study.groups[1], study, 2)))
         self.assertEqual(page.texts["h1"], "Mutual <of> Examplia & Sons")
-        self.assertEqual(len(page.drawings), 2)
-        for drawing, groups in zip(page.drawings, (study.groups, study.weighted)):
-            words = self.has_words(drawing)
-            for i, group in enumerate(groups, 1):
-                ratio = figures.actual_to_expected(group)
-                self.assertIn(f"group {i}: {ratio or 'nothing expected'}", words)
-                self.assertTrue(not ratio or f">{ratio}</text>" in drawing)
+        self.assertEqual(len(page.drawings), 6)
+        for drawings, groups in ((page.drawings[:3], study.groups), (page.drawings[3:], study.weighted)):
+            self.charts_of_groups(drawings, groups)
+
+    def charts_of_groups(self, drawings: List[str], groups: List[GroupSums]) -> None:
+        """Exposure, closings and ratios of each group, drawn and in words; only counts have an interval."""
+        exposure, closings, ratio = drawings
+        for i, group in enumerate(groups, 1):
+            self.assertIn(f": {figures.months(group.thirtieths)} months", self.has_words(exposure))
+            self.assertIn(f">{figures.months(group.thirtieths)}</text>", exposure)
+            self.assertIn(f"months: {figures.counted(group.closings, 'closing')}", self.has_words(closings))
+            for one in ratios_of(group, "weighted" not in ratio):
+                self.assertIn(one.words, self.has_words(ratio))
+                self.assertTrue(not one.text or f">{one.text}</text>" in ratio)
+                self.assertTrue(one.interval is None or f">{figures.interval_text(one.interval)}</text>" in ratio)
+        self.assertEqual("whisker" in ratio, "weighted" not in ratio)
 
     def figures_stand_under_their_headings(self, page: Page, study: Study) -> None:
         """Each column has the figure that its heading names, group by group."""
         for title, (head, *rows) in page.tables.items():
             groups = study.weighted if "weighted by benefit" in title else study.groups
+            self.assertEqual([row[0] for row in rows], ["1", "2", "3", "4", "5", "all"])
             for i, group in enumerate(groups):
                 named = dict(zip(head, rows[i]))
-                self.assertEqual(named["group"], str(i + 1))
                 for heading, figure in self.by_heading(group, study, i + 1).items():
                     self.assertEqual(named.get(heading, figure), figure, (title, heading))
 
@@ -175,6 +187,11 @@ class Pages(DeskTest):
         found["actualrecoveries and deaths"] = f"{group.recovery + group.death:,}"
         found["expected"] = figures.closings(group.expected_recoveries + group.expected_deaths)
         found["actual to expected"] = figures.actual_to_expected(group)
+        both, *apart = ratios_of(group)
+        found["interval95 %"] = figures.interval_text(both.interval)
+        for ratio in apart:
+            shown = (f"{ratio.actual:,}", figures.closings(ratio.expected), ratio.text, figures.interval_text(ratio.interval))
+            found.update({ratio.kind + unit: text for unit, text in zip(("actual", "expected", "actual to expected", "95 % interval"), shown)})
         return found
 
     def every_figure(self, page: Page, study: Study) -> None:
@@ -199,7 +216,7 @@ class Pages(DeskTest):
         self.assertIn("The 9 parts add up", page.texts["p"])
         self.assertEqual(len(page.drawings), 3)
         ratio, exposure, closings = page.drawings
-        self.assertIn("Actual to expected by group", self.has_words(ratio))
+        self.assertIn("Actual to expected by group, undivided window", self.has_words(ratio))
         for part, study in divided.parts:
             months = figures.months(sum(group.thirtieths for group in study.groups))
             self.assertIn(f"{part.label}: {months} months", self.has_words(exposure))
@@ -224,6 +241,58 @@ class Pages(DeskTest):
         self.assertEqual(rows[0][2], "claim number")
         divided = divide(claim_file(self.claims[:60]), self.rates, calendar_years(*WINDOW), False)
         self.assertEqual(len(rows) - 1, sum(group.closings for group in divided.whole.groups))
+
+    def test_groups_without_exposure_share_a_row(self) -> None:
+        self.packed([Claim(1, "2009-03-13", "2009-06-11", "2012-04-29", status=1, code=1)])
+        page = self.page("study", "--weighted")
+        for title, (_, *rows) in page.tables.items():
+            self.assertEqual([row[0] for row in rows], ["2", "3", "1, 4, 5", "all"], title)
+            self.assertEqual(rows[2][1], "no exposure")
+        head, *rows = page.tables["Actual to expected, credibility z, margin m and factor T"]
+        named = dict(zip(head, rows[2]))
+        # m is 0 in group 1 and 0.15 in the others: no figure is theirs alike.
+        self.assertEqual((named["z"], named["m"], named["T"], named["interval95 %"]), ("0.000000", "", "1.000000", ""))
+        self.assertIn("Groups 1, 4 and 5: no exposure", page.texts["text"])
+        years = self.page("years")
+        self.assertEqual(years.tables["Groups without exposure in any part"][1], ["1, 4, 5", "1 to 3; 61 to 120; over 120", "0", "0"])
+        self.assertEqual([title for title in years.tables if title.startswith("Group ")], ["Group 2: durations 4 to 24 months", "Group 3: durations 25 to 60 months"])
+
+    def test_what_z_m_and_t_are(self) -> None:
+        text = self.page("study")
+        self.assertEqual([term for term in ("z, credibility", "m, margin", "T, factor") if term in text.texts["dt"]], ["z, credibility", "m, margin", "T, factor"])
+        self.assertIn("without any ceiling", text.texts["dd"])
+        # The box's words are document 01's rules.
+        for group, k, a in ((2, 3_300, 4), (3, 2_500, 3), (4, 2_100, 2.5), (5, 1_700, 2)):
+            expected, count = 1_234 * 30_000_000, 700
+            z, m, t = (figure / 1_000_000 for figure in factor(group, count, expected))
+            self.assertAlmostEqual(z, min(1, (1_234 / k) ** 0.5), delta=1e-6)
+            self.assertAlmostEqual(m, min(0.15, 0.03 + 1.03 * (a / count) ** 0.5), delta=1e-6)
+            self.assertAlmostEqual(t, z * (1 - m) * count / 1_234 + 1 - z, delta=3e-6)
+
+    def test_every_table_shows_that_it_scrolls(self) -> None:
+        style = self.page("study").style
+        scroll = re.findall(r"\n\.scroll \{(.*?)\}", style, re.S)[0]
+        self.assertIn("overflow-x: auto", scroll)
+        self.assertEqual(scroll.count("linear-gradient"), 4)
+        self.assertNotIn("A4", style)
+        self.assertIn("@page { margin: 12mm; }", style)
+
+    def test_units_are_smaller_than_their_headings(self) -> None:
+        self.assertRegex(self.page("study").style, r"thead span \{[^}]*font-size: \.\d+em;")
+
+    def test_provenance(self) -> None:
+        self.file("claims.csv", "x")
+        words = ("--carrier", "Mutual <of> Examplia", "--made-from", "claims.csv")
+        for command in ("study", "years"):
+            self.ltd(command, "x.claims", "r.bin", *words, "--html", "page.html")
+            text = Page((self.folder / "page.html").read_text(encoding="utf-8")).texts["p"]
+            self.assertIn("Carrier: Mutual <of> Examplia", text)
+            self.assertIn(f"Command: ./ltd {command} x.claims r.bin --carrier 'Mutual <of> Examplia' --made-from claims.csv --html page.html", text)
+            self.assertIn(f"Made on {date.today()}", text)
+            self.assertIn(f"sha256 {hashlib.sha256(library.path_in_use().read_bytes()).hexdigest()}", text)
+            self.assertIn(f"made from: claims.csv, sha256 {hashlib.sha256(b'x').hexdigest()}", text)
+        self.assertNotIn("Carrier:", self.page("study").texts["p"])
+        self.assertIn("there is no file 'nowhere'", self.ltd("study", "x.claims", "r.bin", "--made-from", "nowhere", "--html", "p.html", status=2).err)
 
     def test_names_of_files_are_told(self) -> None:
         page = self.page("study", "--corrected")

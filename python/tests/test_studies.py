@@ -1,15 +1,16 @@
-"""study and pool: tables, CSV and JSON parsed again, corrections, refusals."""
+"""study: tables, CSV and JSON parsed again, corrections, refusals."""
 
 import csv
 import io
 import json
 import random
 from fractions import Fraction
+from hashlib import sha256
 from typing import Dict, List
 
-from ltd_study import GROUPS, Claim, GroupSums, Rates, RefusedFile, Study, file_study
+from ltd_study import GROUPS, Claim, GroupSums, RefusedFile, Study, file_study
 from ltd_study.desk import figures
-from ltd_study.desk.study_json import SavedStudy, of_json, to_json
+from ltd_study.desk.study_json import SavedStudy, of_json
 from ltd_study.study import SUM_NAMES
 
 from .support import ROOT, WINDOW, DeskTest, any_rates, claim_file, sound_claims
@@ -40,6 +41,28 @@ group  durations    exposure  exposure  recovery  death  settlement  max-out  li
 5      over 120            0     0.000         0      0           0        0      0
 all                    1,050    35.000         1      0           0        0      0
 
+Actual to expected, credibility z, margin m and factor T
+group  durations                 actual  expected  actual to expected         interval         z         m         T
+       months     recoveries and deaths                                           95 %
+--------------------------------------------------------------------------------------------------------------------
+1      1 to 3                         0    0.0000                                       0.000000  0.000000  1.000000
+2      4 to 24                        0    0.3150              0.0000  0.000 to 11.711  0.009770  0.150000  0.990230
+3      25 to 60                       1    0.2100              4.7619  0.121 to 26.532  0.009165  0.150000  1.027931
+4      61 to 120                      0    0.0000                                       0.000000  0.150000  1.000000
+5      over 120                       0    0.0000                                       0.000000  0.150000  1.000000
+all                                   1    0.5250              1.9048  0.048 to 10.613
+
+Recoveries and deaths apart
+group  durations  recoveries  recoveries          recoveries       recoveries  deaths    deaths              deaths           deaths
+       months         actual    expected  actual to expected    95 % interval  actual  expected  actual to expected    95 % interval
+------------------------------------------------------------------------------------------------------------------------
+1      1 to 3              0      0.0000                                            0    0.0000
+2      4 to 24             0      0.2100              0.0000  0.000 to 17.566       0    0.1050              0.0000  0.000 to 35.132
+3      25 to 60            1      0.1400              7.1429  0.181 to 39.797       0    0.0700              0.0000  0.000 to 52.698
+4      61 to 120           0      0.0000                                            0    0.0000
+5      over 120            0      0.0000                                            0    0.0000
+all                        1      0.3500              2.8571  0.072 to 15.919       0    0.1750              0.0000  0.000 to 21.079
+
 Expected closings
 group  durations  expected recoveries  expected deaths  expected recoveries  expected deaths
        months            1/30,000,000     1/30,000,000             closings         closings
@@ -51,16 +74,7 @@ group  durations  expected recoveries  expected deaths  expected recoveries  exp
 5      over 120                     0                0               0.0000           0.0000
 all                        10,500,000        5,250,000               0.3500           0.1750
 
-Actual to expected, credibility z, margin m and factor T
-group  durations                 actual  expected  actual to expected         z         m         T
-       months     recoveries and deaths
----------------------------------------------------------------------------------------------------
-1      1 to 3                         0    0.0000                      0.000000  0.000000  1.000000
-2      4 to 24                        0    0.3150              0.0000  0.009770  0.150000  0.990230
-3      25 to 60                       1    0.2100              4.7619  0.009165  0.150000  1.027931
-4      61 to 120                      0    0.0000                      0.000000  0.150000  1.000000
-5      over 120                       0    0.0000                      0.000000  0.150000  1.000000
-all                                   1    0.5250              1.9048
+95 % interval: exact limits of a Poisson count (Garwood's), what is expected taken as known.
 """
 
 
@@ -94,11 +108,9 @@ class Studies(DeskTest):
         kept = Study.open(*WINDOW)
         kept.add_all([claim for i, claim in enumerate(self.claims) if last[claim.number] == i], self.rates)
         self.assertEqual(file_study(self.folder / "x.claims", self.rates, corrected=True), kept)
-        saved = of_json(self.ltd("study", "x.claims", "r.bin", "--corrected", "--json").out)
-        self.assertEqual(saved, SavedStudy(kept, True, self.rates.sha256))
-        note = "ltd: note: {} claim numbers stand more than once, and every record counts; see --corrected\n"
-        twice = sum(1 for number in last if sum(claim.number == number for claim in self.claims) > 1)
-        self.assertEqual(self.ltd("study", "x.claims", "r.bin").err, note.format(twice))
+        ended = self.ltd("study", "x.claims", "r.bin", "--corrected", "--json")
+        self.assertEqual(of_json(ended.out), SavedStudy(kept, True, self.rates.sha256, sha256((self.folder / "x.claims").read_bytes()).hexdigest()))
+        self.assertEqual(ended.err, "")
 
     def test_json(self) -> None:
         found = json.loads(self.ltd("study", "x.claims", "r.bin", "--json").out)
@@ -116,6 +128,17 @@ class Studies(DeskTest):
         self.assertNotIn("t", found["weighted"][0])
         self.assertEqual([found["total"][field] for field in SUM_NAMES], total(self.study.groups))
         self.assertEqual([found["weighted_total"][field] for field in SUM_NAMES], total(self.study.weighted))
+
+    def test_a_carrier(self) -> None:
+        text = self.ltd("study", "x.claims", "r.bin", "--carrier", "Mutual of Examplia", "--html", "x.html").out
+        self.assertIn("250 claims taken\ncarrier: Mutual of Examplia\n", text)
+        self.assertIn("<p class=\"muted\">carrier: Mutual of Examplia</p>", (self.folder / "x.html").read_text())
+        self.assertEqual(json.loads(self.ltd("study", "x.claims", "r.bin", "--carrier", "Mutual", "--json").out)["carrier"], "Mutual")
+
+    def test_words_that_are_no_utf_8(self) -> None:
+        for command in ("study", "years"):
+            self.ltd(command, "x.claims", "r.bin", "--title", "caf\udce9", "--html", "x.html")
+            self.assertIn("<h1>caf\\udce9</h1>", (self.folder / "x.html").read_text())
 
     def test_csv(self) -> None:
         rows = list(csv.DictReader(io.StringIO(self.ltd("study", "x.claims", "r.bin", "--csv", "--weighted").out)))
@@ -163,7 +186,8 @@ class Studies(DeskTest):
         ended = self.ltd("study", "x.claims", "r.bin", status=1)
         self.assertEqual(
             ended.err,
-            "ltd: 'x.claims': refused 5 (short elimination) at block 2, place 6 (claim number 77); './ltd check' names every claim that would be refused\n",
+            "ltd: 'x.claims': refused 5 (short elimination) at block 2, place 6 (claim number 77: BCD 2010-01-10 is 9 days after disability 2010-01-01, "
+            "and 15 are the fewest); './ltd check' names every claim that would be refused, and --accepted leaves them out\n",
         )
         self.assertEqual(ended.out, "")
         with self.assertRaises(RefusedFile) as caught:
@@ -174,9 +198,17 @@ class Studies(DeskTest):
         self.assertEqual(caught.exception.study, so_far)
         self.file("x.claims", claim_file(self.claims).data[:-1])
         self.assertIn("refused 5", self.ltd("study", "x.claims", "r.bin", status=1).err)
-        self.assertIn("refused 11 (block) at block 17;", self.ltd("study", "x.claims", "r.bin", "--corrected", status=1).err)
+        ended = self.ltd("study", "x.claims", "r.bin", "--corrected", status=1)
+        self.assertIn("refused 11 (block) at block 17; './ltd check --corrected' names every claim", ended.err)
         self.packed(self.claims, ("2012-01-01", "2011-01-01"))
         self.assertIn("refused 1 (window) at block 0;", self.ltd("study", "x.claims", "r.bin", status=1).err)
+
+    def test_too_many_records_to_correct(self) -> None:
+        self.packed([self.claims[0]] * 60_001)
+        ended = self.ltd("study", "x.claims", "r.bin", "--corrected", status=1)
+        words = "the file has 60,001 records, and with corrections 60,000 are the most"
+        self.assertEqual(ended.err, f"ltd: 'x.claims': refused 14 (too many records) at block 0: {words}\n")
+        self.assertIn(words, self.ltd("check", "x.claims", "r.bin", "--corrected", status=1).out)
 
     def test_rate_files_that_are_no_table(self) -> None:
         for data in (b"", self.rates.to_bytes()[:-4], self.rates.to_bytes()[:-1]):
@@ -186,68 +218,6 @@ class Studies(DeskTest):
         self.assertIn("the rate table 'r.bin' has a part of a number at its end", ended.err)
         self.packed([])
         self.assertIn("0 claims taken", self.ltd("study", "x.claims", "r.bin").out)
-
-
-class Pools(DeskTest):
-    """Studies saved as JSON and joined."""
-
-    def setUp(self) -> None:
-        super().setUp()
-        rng = random.Random(3)
-        self.rates, self.claims = any_rates(rng), sound_claims(rng, 120)
-        self.file("r.bin", self.rates.to_bytes())
-        for i in range(4):
-            self.packed(self.claims[i::4], name=f"{i}.claims")
-            self.file(f"{i}.json", self.ltd("study", f"{i}.claims", "r.bin", "--json").out)
-        self.packed(self.claims)
-        self.whole = of_json(self.ltd("study", "x.claims", "r.bin", "--json").out)
-
-    def pooled(self, name: str, *names: str) -> str:
-        """Pools studies into another saved one."""
-        self.file(name, self.ltd("pool", *names, "--json").out)
-        return name
-
-    def test_any_order_and_grouping(self) -> None:
-        at_once = self.pooled("a.json", "0.json", "1.json", "2.json", "3.json")
-        by_pairs = self.pooled("b.json", self.pooled("c.json", "3.json", "1.json"), self.pooled("d.json", "2.json", "0.json"))
-        for name in (at_once, by_pairs):
-            self.assertEqual(of_json((self.folder / name).read_text()), self.whole)
-        self.assertEqual(self.ltd("pool", "a.json", "--csv", "--weighted").out, self.ltd("study", "x.claims", "r.bin", "--csv", "--weighted").out)
-        self.assertEqual(self.ltd("pool", "a.json").out, self.ltd("study", "x.claims", "r.bin").out)
-
-    def test_saved_and_read_again(self) -> None:
-        self.assertEqual(of_json(to_json(self.whole)), self.whole)
-
-    def test_other_windows_and_rates(self) -> None:
-        self.packed(self.claims, ("2009-01-01", "2010-12-31"), name="y.claims")
-        self.file("y.json", self.ltd("study", "y.claims", "r.bin", "--json").out)
-        self.assertEqual(self.ltd("pool", "0.json", "y.json", status=1).err, "ltd: 'y.json': refused 15 (other window)\n")
-        self.file("s.bin", Rates.flat(1, 1, 2).to_bytes())
-        self.file("z.json", self.ltd("study", "1.claims", "s.bin", "--json").out)
-        self.assertIn("'z.json' was made with another rate table than '0.json'", self.ltd("pool", "0.json", "z.json", status=1).err)
-
-    def test_files_that_are_no_study(self) -> None:
-        good = json.loads((self.folder / "0.json").read_text())
-        broken = {
-            "no JSON": "{",
-            'no "format"': "[]",
-            "missing or not as it was saved: 'claims_taken'": {key: good[key] for key in good if key != "claims_taken"},
-            "thirtieths is no whole number": {**good, "groups": [{**good["groups"][0], "thirtieths": 1.5}, *good["groups"][1:]]},
-            "not the five groups": {**good, "weighted": good["weighted"][:4]},
-            "refused 1 (window)": {**good, "window": {"first": "2010-01-01", "last": "2009-01-01"}},
-            "Invalid isoformat": {**good, "window": {"first": "then", "last": "2009-01-01"}},
-            "from -9223372036854775808": {**good, "groups": [{**good["groups"][0], "thirtieths": 2**63}, *good["groups"][1:]]},
-            "has not the length or form": {**good, "claims_taken": -1},
-            "refused 9 (full)": {**good, "claims_taken": 500_001},
-        }
-        for reason, content in broken.items():
-            self.file("bad.json", content if isinstance(content, str) else json.dumps(content))
-            ended = self.ltd("pool", "bad.json", "0.json", status=1)
-            self.assertIn("ltd: 'bad.json': ", ended.err)
-            self.assertIn(reason, ended.err)
-            self.assertEqual(ended.out, "")
-        self.file("bad.json", b"\xff\xfe")
-        self.assertIn("ltd: 'bad.json': ", self.ltd("pool", "bad.json", status=1).err)
 
 
 class Figures(DeskTest):

@@ -5,7 +5,7 @@ from typing import BinaryIO, Callable, Dict, Iterator, List, Mapping, TextIO, Tu
 from .. import dates
 from ..claim import CODE_NUMBERS, CODE_WORDS, COLUMNS, RECORD, STATUS_NUMBERS, STATUS_WORDS
 from ..claim_file import ClaimFile
-from .csv_rows import Faults, WholeNumbers, header_places, is_utf8, numbered_rows, shown, text_of, whole_number, writer
+from .csv_rows import Faults, WholeNumbers, header_places, is_utf8, not_utf8, numbered_rows, shown, text_of, whole_number, writer
 
 _HIGHEST_NUMBER = 0xFFFF_FFFF
 _HIGHEST_CELL = 0xFFFF
@@ -50,7 +50,10 @@ class _Benefits(WholeNumbers):
     """Benefits; an empty one is 0, which weighs as 1."""
 
     def __missing__(self, text: str) -> int:
-        return super().__missing__(text) if text.strip() else 0
+        try:
+            return super().__missing__(text) if text.strip() else 0
+        except ValueError as error:
+            raise ValueError(f"{error}; a benefit is in hundreds of dollars, 1 to 200") from None
 
 
 def _number(text: str) -> int:
@@ -66,7 +69,7 @@ def read_records(stream: BinaryIO, faults: Faults, seen: Callable[[int], None] =
     width = len(COLUMNS)
     when, status, code = _Dates(), _Words(STATUS_NUMBERS), _Words(CODE_NUMBERS, empty=0)
     cell, benefit = WholeNumbers(_HIGHEST_CELL), _Benefits(_HIGHEST_BYTE)
-    readers = (_number, *[when.__getitem__] * 4, status.__getitem__, code.__getitem__, cell.__getitem__, benefit.__getitem__)
+    readers = tuple(column_readers().values())
     at_number, at_disability, at_bcd, at_termination, at_maximum, at_status, at_code, at_cell, at_benefit = places
     pack, next_seen = RECORD.pack, _ROWS_BETWEEN
     for line, row in rows:
@@ -92,13 +95,21 @@ def read_records(stream: BinaryIO, faults: Faults, seen: Callable[[int], None] =
             _name_faults(line, [row[place] for place in places], readers, faults)
 
 
+def column_readers() -> Dict[str, Callable[[str], int]]:
+    """What reads the text of each column."""
+    when, benefit = _Dates(), _Benefits(_HIGHEST_BYTE)
+    words = _Words(STATUS_NUMBERS).__getitem__, _Words(CODE_NUMBERS, empty=0).__getitem__
+    readers = (_number, *[when.__getitem__] * 4, *words, WholeNumbers(_HIGHEST_CELL).__getitem__, benefit.__getitem__)
+    return dict(zip(COLUMNS, readers))
+
+
 def _name_faults(line: int, fields: List[str], readers: Tuple[Callable[[str], int], ...], faults: Faults) -> None:
     """Every column of a row that can't be read."""
     for column, text, read in zip(COLUMNS, fields, readers):
         try:
             read(text)
         except ValueError as error:
-            faults.add(line, column, str(error) if is_utf8(text) else f"{shown(text)} is not UTF-8")
+            faults.add(line, column, str(error) if is_utf8(text) else not_utf8(text))
 
 
 def write_rows(file: ClaimFile, text: TextIO, seen: Callable[[int], None] = lambda block: None) -> int:

@@ -4,18 +4,25 @@ import io
 import os
 from argparse import Namespace
 from contextlib import contextmanager
-from typing import BinaryIO, Iterator, TextIO
+from typing import BinaryIO, Callable, Iterator, Sequence, TextIO
 
 from .. import dates
 from ..claim_file import MOST_BLOCKS, MOST_IN_BLOCK, repeated_numbers, write_claims
 from ..refusals import Refused
-from ..study import Study
 from . import claims_csv, rates_csv
 from .csv_rows import Faults
 from .figures import counted
+from .inputs import say_faults
+from .mapping import Mapping
 from .progress import Progress
-from .talk import DATA_REFUSED, DONE, DataRefused, WrongUse, put, put_bytes, read_claims, read_rates, say
-from .whole_files import whole_file, write_whole
+from .repeats import Repeats, note
+from .side_files import Hashed, can_have_side_files, remove_older, write_side_files
+from .talk import DATA_REFUSED, DONE, DataRefused, WrongUse, must_be_window, put, put_bytes, read_claims, read_rates, say, say_note
+from .whole_files import note_input, whole_file, write_whole
+
+
+Reader = Callable[[BinaryIO, Callable[[int], None]], Iterator[bytes]]
+"""The records of a stream; the function is told the line now and then."""
 
 
 class _Faulty(Exception):
@@ -25,25 +32,32 @@ class _Faulty(Exception):
 def pack(asked: Namespace) -> int:
     """A claim file from CSV; nothing is written where a row is bad."""
     first, last = asked.window
-    try:
-        Study.open(first, last)
-    except Refused as refused:
-        raise WrongUse(f"--window {first} {last}: {refused}; it runs from FIRST to LAST within {dates.FIRST} to {dates.LAST}") from None
-    faults = Faults(asked.limit)
+    must_be_window(first, last)
+    faults, repeats = Faults(asked.limit), Repeats()
+    mapping = Mapping(asked, faults) if asked.map is not None else None
+    read = mapping.rows.records if mapping else lambda stream, seen: claims_csv.read_records(stream, faults, seen)
     try:
         with _opened("CSV file", asked.claims) as csv_file, whole_file(asked.out) as out:
-            count = _pack(csv_file, out, first, last, faults)
+            if mapping:
+                mapping.look_at_outputs()
+            hashed = Hashed(out)
+            count = _pack(csv_file, hashed, asked.window, faults, lambda stream, seen: repeats.through(read(stream, seen)))
+            if mapping:
+                mapping.write_side_files(hashed.sha256)
+        if not mapping:
+            remove_older(asked.out)
     except _Faulty:
         return _name(faults, asked.claims)
-    put(f"{asked.out}: {counted(count, 'claim')} of {first} to {last}\n")
+    put(f"{asked.out}: {counted(count, 'claim')} of {first} to {last}\n" + (mapping.words if mapping else ""))
+    say_note(note(repeats.numbers))
     return DONE
 
 
-def _pack(csv_file: BinaryIO, out: BinaryIO, first: str, last: str, faults: Faults) -> int:
+def _pack(csv_file: BinaryIO, out: Hashed, window: Sequence[str], faults: Faults, read: Reader) -> int:
     with Progress("packing", _size(csv_file)) as progress:
-        records = claims_csv.read_records(csv_file, faults, lambda line: progress.at(csv_file.tell() if csv_file.seekable() else 0))
+        records = read(csv_file, lambda line: progress.at(csv_file.tell() if csv_file.seekable() else 0))
         try:
-            count = write_claims(out, first, last, records)
+            count = write_claims(out, *window, records)
         except Refused:
             raise DataRefused(f"a claim file holds at most {MOST_BLOCKS * MOST_IN_BLOCK:,} claims") from None
     if faults.count:
@@ -52,10 +66,7 @@ def _pack(csv_file: BinaryIO, out: BinaryIO, first: str, last: str, faults: Faul
 
 
 def _name(faults: Faults, name: str) -> int:
-    for fault in faults.first:
-        say(f"{name}: {fault}")
-    more = faults.count - len(faults.first)
-    say(counted(faults.count, "fault") + (f", {more:,} of them not named here" if more else "") + "; nothing is written")
+    say_faults(faults, name, "nothing is written")
     return DATA_REFUSED
 
 
@@ -75,16 +86,24 @@ def unpack(asked: Namespace) -> int:
 
 def rates_pack(asked: Namespace) -> int:
     """A rate table from CSV; nothing is written where a row is missing, doubled or impossible."""
+    if asked.round and not asked.decimal:
+        raise WrongUse("--round goes with --decimal: millionths are whole numbers")
     faults = Faults(asked.limit)
     with _opened("CSV file", asked.rates) as csv_file:
-        rates = rates_csv.read_rates(csv_file, asked.decimal, faults)
+        rates, notes = rates_csv.read_rates(csv_file, rates_csv.Form(asked.decimal, asked.round, asked.extend_last), faults)
     if faults.count:
         return _name(faults, asked.rates)
     # The rows were looked at here; the engine has the last word on the table.
     if rates.prepared is None or rates.unsound_cells:
         raise DataRefused(f"the engine refuses the table of '{asked.rates}'")
+    if notes and not can_have_side_files(asked.out):
+        raise WrongUse(f"--round and --extend-last write a file beside OUT, for the page to say so, and '{asked.out}' is no file")
+    if notes:
+        write_side_files(asked.out, rates.sha256, {}, notes)
     write_whole(asked.out, rates.to_bytes())
-    put(f"{asked.out}: rates of {counted(rates.cells, 'cell')}\n")
+    if not notes:
+        remove_older(asked.out)
+    put("".join([f"{asked.out}: rates of {counted(rates.cells, 'cell')}\n", *(f"{note}\n" for note in notes)]))
     return DONE
 
 
@@ -107,6 +126,7 @@ def _opened(what: str, path: str) -> Iterator[BinaryIO]:
     except OSError as error:
         raise WrongUse(f"the {what} '{path}' can't be read: {error.strerror}") from None
     with stream:
+        note_input(stream, path)
         yield stream
 
 

@@ -5,6 +5,7 @@ import io
 from typing import BinaryIO, Dict, Iterator, List, NamedTuple, Optional, Sequence, TextIO, Tuple
 
 _LONGEST_SHOWN = 40
+_OTHER_SEPARATORS = {";": "semicolons", "\t": "tabs", "|": "bars"}
 
 
 class Fault(NamedTuple):
@@ -46,16 +47,21 @@ def is_utf8(text: str) -> bool:
     return not any("\udc80" <= c <= "\udcff" for c in text)
 
 
+def not_utf8(text: str) -> str:
+    """What is said of such text. Every byte is a character of Latin-1; Windows-1252 has letters where Latin-1 has controls."""
+    return f"{shown(text.encode('utf-8', 'surrogateescape').decode('cp1252', 'replace'))} is Latin-1 (or Windows-1252) and not UTF-8"
+
+
 def text_of(stream: BinaryIO) -> TextIO:
     """UTF-8 text, with or without a mark. Bytes that are no UTF-8 are kept, for their row to be named."""
     return io.TextIOWrapper(stream, encoding="utf-8-sig", errors="surrogateescape", newline="")
 
 
-def numbered_rows(text: TextIO, faults: Faults) -> Iterator[Tuple[int, List[str]]]:
-    """Each row with the line that it starts in; empty lines are passed over, and rows that are no CSV named."""
-    reader = csv.reader(text, strict=True)
+def numbered_rows(text: TextIO, faults: Faults, delimiter: str = ",", above: int = 0) -> Iterator[Tuple[int, List[str]]]:
+    """Each row with the line that it starts in; empty lines are passed over, and rows that are no CSV named. Lines above were read already."""
+    reader = csv.reader(text, strict=True, delimiter=delimiter)
     while True:
-        line = reader.line_num + 1
+        line = above + reader.line_num + 1
         try:
             row = next(reader)
         except StopIteration:
@@ -74,14 +80,28 @@ def header_places(rows: Iterator[Tuple[int, List[str]]], columns: Sequence[str],
     if not names:
         faults.add(line, "", f"no header line; it names the columns {', '.join(columns)}")
         return None
+    if wrong := _other_form(header):
+        faults.add(line, "", wrong)
+        return None
     before = faults.count
     for name, found in zip(header, names):
         if found not in columns:
-            faults.add(line, "", f"no such column: {shown(name)}; the columns are {', '.join(columns)}")
+            named = shown(name) if is_utf8(name) else not_utf8(name)
+            faults.add(line, "", f"no such column: {named}; the columns are {', '.join(columns)}")
     for column in columns:
         if names.count(column) != 1:
             faults.add(line, column, "is missing" if column not in names else "stands twice")
     return [names.index(column) for column in columns] if faults.count == before else None
+
+
+def _other_form(header: Sequence[str]) -> str:
+    """What a whole file is where it is no CSV in UTF-8, by its header line."""
+    if any("\0" in name for name in header):
+        return "the file is UTF-16 and not UTF-8: save it as UTF-8"
+    if len(header) > 1:
+        return ""
+    kinds = [kind for mark, kind in _OTHER_SEPARATORS.items() if mark in header[0]]
+    return f"the fields are separated by {kinds[0]} and not by commas" if kinds else ""
 
 
 def writer(text: TextIO) -> "csv._writer":  # type: ignore[name-defined]

@@ -1,12 +1,13 @@
 """Figures as people read them. Every one is exact or rounded from whole numbers, never from a rounded one."""
 
-from typing import Optional, Union
+from typing import Optional, Sequence, Tuple, Union
 
 from ..study import EXPECTED_UNIT, THIRTIETHS, GroupSums
 
 MONTH_PLACES = 3
 CLOSING_PLACES = 4
 RATIO_PLACES = 4
+INTERVAL_PLACES = 3
 
 
 def whole(number: int) -> str:
@@ -34,6 +35,17 @@ def closings(expected: int) -> str:
 def actual_to_expected(sums: GroupSums) -> str:
     """30,000,000 × C / E, blank where E is 0 or less."""
     return quotient(EXPECTED_UNIT * sums.terminations, sums.expected, RATIO_PLACES) if sums.expected > 0 else ""
+
+
+def interval_text(interval: Optional[Tuple[float, float]], places: int = INTERVAL_PLACES) -> str:
+    """'0.345 to 2.051', blank where there is none."""
+    return "" if interval is None else f"{interval[0]:,.{places}f} to {interval[1]:,.{places}f}"
+
+
+def group_names(groups: Sequence[int]) -> str:
+    """'Group 1', 'Groups 1, 4 and 5'."""
+    *others, last = map(str, groups)
+    return f"Groups {', '.join(others)} and {last}" if others else f"Group {last}"
 
 
 def millionths(number: int) -> str:

@@ -1,12 +1,12 @@
 """A window cut into parts: a study of each beside the undivided one."""
 
 from datetime import date, timedelta
-from typing import Callable, Iterator, List, NamedTuple, Optional, Sequence, Tuple
+from typing import Callable, Iterable, Iterator, List, NamedTuple, Optional, Sequence, Set, Tuple
 
-from ..claim_file import ClaimFile, Record, file_study, last_places
+from ..claim_file import ClaimFile, Record, file_study
 from ..month_listing import MonthRecord, listing
 from ..rates import Rates
-from ..study import GroupSums, Study
+from ..study import GroupSums, Study, total
 
 _CLOSED = 1
 _STATUS_AT = 20
@@ -51,8 +51,8 @@ class Divided(NamedTuple):
 
     def of_group(self, group: int, weighted: bool) -> "GroupBeside":
         """A group's sums, beside each other."""
-        sums = [(study.weighted if weighted else study.groups)[group - 1] for study in (self.whole, *(study for _, study in self.parts))]
-        return GroupBeside(sums[0], sums[1:])
+        whole, *parts = (sums_of(study, weighted)[group - 1] for study in (self.whole, *(study for _, study in self.parts)))
+        return GroupBeside(whole, parts, total(parts))
 
     @property
     def adds_up(self) -> bool:
@@ -63,23 +63,26 @@ class Divided(NamedTuple):
 
 
 class GroupBeside(NamedTuple):
-    """The sums of a group in the undivided study and in each part."""
+    """The sums of a group in the whole study and in each of the studies that make it, and theirs together."""
 
     whole: GroupSums
     parts: List[GroupSums]
+    together: GroupSums
 
     @property
-    def together(self) -> GroupSums:
-        """The parts' sums added up."""
-        sums = GroupSums()
-        for part in self.parts:
-            sums = sums.plus(part)
-        return sums
+    def is_empty(self) -> bool:
+        """Whether every sum is zero in every study."""
+        return not any(any(sums) for sums in (self.whole, *self.parts))
 
     @property
     def difference(self) -> GroupSums:
-        """The parts together less the undivided window."""
+        """The parts together less the whole."""
         return self.together.minus(self.whole)
+
+
+def sums_of(study: Study, weighted: bool) -> List[GroupSums]:
+    """The groups of a study in one set."""
+    return study.weighted if weighted else study.groups
 
 
 def divide(file: ClaimFile, rates: Rates, parts: Sequence[Part], corrected: bool, seen: Callable[[int], None] = lambda i: None) -> Divided:
@@ -105,14 +108,12 @@ class Closing(NamedTuple):
         return len(self.parts) == 1
 
 
-def closings(file: ClaimFile, divided: Divided, corrected: bool, seen: Callable[[int], None] = lambda block: None) -> Iterator[Closing]:
-    """Each closing in file order, by the listings of its claim in the window and in the parts."""
-    last = last_places(file) if corrected else None
+def closings(records: Iterable[Record], divided: Divided, seen: Callable[[int], None] = lambda block: None) -> Iterator[Closing]:
+    """Each closing of the claims that count, in their order, by the listings of its claim in the window and in the parts."""
     whole = Part(divided.whole.first, divided.whole.last)
-    for record in file.records():
+    for record in records:
         seen(record.block)
-        corrected_later = last is not None and last[record.number] != (record.block, record.place)
-        if record.data[_STATUS_AT] != _CLOSED or corrected_later:
+        if record.data[_STATUS_AT] != _CLOSED:
             continue
         month = closing_month(record, whole)
         if month is not None:
@@ -123,3 +124,9 @@ def closing_month(record: Record, part: Part) -> Optional[MonthRecord]:
     """The month in which a claim closes in a window, if it does."""
     months = listing(record.data, *part)
     return months[-1] if months and months[-1].category else None
+
+
+def refused_in(records: Iterable[bytes], rates: Rates, parts: Sequence[Part]) -> List[Set[int]]:
+    """Of each claim the numbers under which the parts refuse it; 0 where one takes it."""
+    studies = [Study.open(*part) for part in parts]
+    return [{study.try_add(record, rates) for study in studies} for record in records]

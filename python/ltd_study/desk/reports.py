@@ -1,19 +1,25 @@
 """What studies and years are shown as: tables for text and page, rows for CSV, figures for JSON."""
 
-from typing import Dict, Iterable, List, NamedTuple, Optional, Sequence, Tuple, Union
+from typing import Any, Callable, Dict, Iterable, List, NamedTuple, Optional, Sequence, Tuple, Union
 
 from ..study import GROUPS, SUM_NAMES, GroupSums, Study, total
 from ..valuation import Factor
-from .figures import actual_to_expected, closings, durations, millionths, months, whole
+from .checking import Found
+from .figures import actual_to_expected, closings, durations, interval_text, millionths, months, whole
 from .parts import Closing, Divided, GroupBeside, Part
+from .ratios import KINDS, Ratio, ratios_of
 from .tables import Column, Row, Table
 
-_CLOSING_COLUMNS = (Column("recovery"), Column("death"), Column("settlement"), Column("max-out"), Column("limit"))
-_GROUP_COLUMNS = (Column("group", left=True), Column("durations", "months", left=True))
-_EXPOSURE_COLUMNS = (Column("exposure", "thirtieths"), Column("exposure", "months"))
-_EXPECTED_COLUMNS = (Column("expected recoveries", "1/30,000,000"), Column("expected deaths", "1/30,000,000"))
+CLOSING_COLUMNS = (Column("recovery"), Column("death"), Column("settlement"), Column("max-out"), Column("limit"))
+GROUP_COLUMNS = (Column("group", left=True), Column("durations", "months", left=True))
+EXPOSURE_COLUMNS = (Column("exposure", "thirtieths"), Column("exposure", "months"))
+EXPECTED_COLUMNS = (Column("expected recoveries", "1/30,000,000"), Column("expected deaths", "1/30,000,000"))
 _RATIO = Column("actual to expected")
-_BENEFIT = ", weighted by benefit (hundreds of dollars a month)"
+RATIO_COLUMNS = (Column("actual", "recoveries and deaths"), Column("expected"), _RATIO)
+INTERVAL_COLUMN = Column("interval", "95 %")
+BESIDE_COLUMNS = (EXPOSURE_COLUMNS[0], *CLOSING_COLUMNS, *EXPECTED_COLUMNS, _RATIO)
+FACTOR_COLUMNS = (Column("z"), Column("m"), Column("T"))
+BENEFIT = ", weighted by benefit (hundreds of dollars a month)"
 
 Figure = Union[int, float, str, None]
 
@@ -23,7 +29,7 @@ class GroupFigures(NamedTuple):
 
     group: int
     sums: GroupSums
-    factor: Optional[Factor]
+    factor: Optional[Factor] = None
 
     @property
     def name(self) -> Tuple[str, str]:
@@ -38,43 +44,51 @@ def group_figures(study: Study, weighted: bool) -> List[GroupFigures]:
 
 
 def study_tables(study: Study, weighted: bool) -> List[Table]:
-    """Exposure and closings; expected closings; actual to expected with z, m and T. With ``weighted`` the second set's after them."""
-    tables = _tables_of(group_figures(study, False), "")
-    return tables + _tables_of(group_figures(study, True), _BENEFIT) if weighted else tables
+    """Exposure and closings; actual to expected with z, m and T; recoveries and deaths apart; expected sums. With ``weighted`` the second set's
+    after them."""
+    tables = set_tables(group_figures(study, False), by_count=True)
+    return tables + set_tables(group_figures(study, True), by_count=False) if weighted else tables
 
 
-def _tables_of(groups: Sequence[GroupFigures], of_set: str) -> List[Table]:
-    all_groups = total(group.sums for group in groups)
+def set_tables(groups: Sequence[GroupFigures], by_count: bool) -> List[Table]:
+    """The four tables of a set, a row for each group; intervals only of counts, z, m and T only where the groups have them."""
+    all_groups, of_set = total(group.sums for group in groups), "" if by_count else BENEFIT
+    factors: Tuple[Column, ...] = () if groups[0].factor is None else FACTOR_COLUMNS
+    interval: Tuple[Column, ...] = (INTERVAL_COLUMN,) if by_count else ()
+    apart = tuple(
+        Column(kind, unit) for kind in KINDS[1:] for unit in ("actual", "expected", "actual to expected", "95 % interval") if by_count or "%" not in unit
+    )
 
-    def table(title: str, columns: Iterable[Column], rows: Iterable[Tuple[str, ...]], last: Tuple[str, ...]) -> Table:
-        named = [Row((*group.name, *cells)) for group, cells in zip(groups, rows)]
-        return Table(title + of_set, (*_GROUP_COLUMNS, *columns), [*named, Row(("all", "", *last), summary=True)])
+    def table(title: str, columns: Iterable[Column], cells_of: Callable[[GroupSums], Tuple[str, ...]], more: Sequence[Tuple[str, ...]] = ()) -> Table:
+        rows = [cells_of(group.sums) + tuple(own) for group, own in zip(groups, more or [()] * len(groups))]
+        last = cells_of(all_groups)
+        last += ("",) * (len(rows[0]) - len(last))
+        return Table(title + of_set, (*GROUP_COLUMNS, *columns), [*group_rows(groups, rows), Row(("all", "", *last), summary=True)])
 
-    factors: Tuple[Column, ...] = () if groups[0].factor is None else (Column("z"), Column("m"), Column("T"))
-    ratio_columns = (Column("actual", "recoveries and deaths"), Column("expected"), _RATIO, *factors)
     return [
-        table(
-            "Exposure and closings",
-            (*_EXPOSURE_COLUMNS, *_CLOSING_COLUMNS),
-            (_exposure_cells(group.sums) for group in groups),
-            _exposure_cells(all_groups),
-        ),
-        table(
-            "Expected closings",
-            (*_EXPECTED_COLUMNS, Column("expected recoveries", "closings"), Column("expected deaths", "closings")),
-            (_expected_cells(group.sums) for group in groups),
-            _expected_cells(all_groups),
-        ),
+        table("Exposure and closings", (*EXPOSURE_COLUMNS, *CLOSING_COLUMNS), exposure_cells),
         table(
             "Actual to expected" + (", credibility z, margin m and factor T" if factors else ""),
-            ratio_columns,
-            (_ratio_cells(group.sums) + _factor_cells(group.factor) for group in groups),
-            _ratio_cells(all_groups) + ("",) * len(factors),
+            (*RATIO_COLUMNS, *interval, *factors),
+            lambda sums: ratio_cells(ratios_of(sums, by_count)[:1], by_count),
+            [factor_cells(group.factor) for group in groups],
+        ),
+        table("Recoveries and deaths apart", apart, lambda sums: ratio_cells(ratios_of(sums, by_count)[1:], by_count)),
+        table(
+            "Expected closings",
+            (*EXPECTED_COLUMNS, Column("expected recoveries", "closings"), Column("expected deaths", "closings")),
+            _expected_cells,
         ),
     ]
 
 
-def _exposure_cells(sums: GroupSums) -> Tuple[str, ...]:
+def group_rows(groups: Sequence[GroupFigures], rows: Sequence[Tuple[str, ...]]) -> List[Row]:
+    """A row for each group, empty where it has no sums at all."""
+    return [Row((*group.name, *cells), empty=not any(group.sums)) for group, cells in zip(groups, rows)]
+
+
+def exposure_cells(sums: GroupSums) -> Tuple[str, ...]:
+    """Exposure in thirtieths and months, and the five closing counts."""
     return (whole(sums.thirtieths), months(sums.thirtieths), *(whole(count) for count in sums[1:6]))
 
 
@@ -83,11 +97,17 @@ def _expected_cells(sums: GroupSums) -> Tuple[str, ...]:
     return (*map(whole, both), *map(closings, both))
 
 
-def _ratio_cells(sums: GroupSums) -> Tuple[str, ...]:
-    return whole(sums.terminations), closings(sums.expected), actual_to_expected(sums)
+def ratio_cells(ratios: Sequence[Ratio], with_interval: bool) -> Tuple[str, ...]:
+    """Actual, expected, their ratio, and its interval."""
+    cells: List[str] = []
+    for ratio in ratios:
+        cells += whole(ratio.actual), closings(ratio.expected), ratio.text
+        cells += [interval_text(ratio.interval)] * with_interval
+    return tuple(cells)
 
 
-def _factor_cells(factor: Optional[Factor]) -> Tuple[str, ...]:
+def factor_cells(factor: Optional[Factor]) -> Tuple[str, ...]:
+    """z, m and T, or nothing."""
     return () if factor is None else (millionths(factor.z), millionths(factor.m), millionths(factor.t))
 
 
@@ -131,24 +151,68 @@ def sums_dict(sums: GroupSums) -> Dict[str, Figure]:
 
 def years_tables(divided: Divided, weighted: bool) -> List[Table]:
     """A table for each group: a row for each part, the parts together, the undivided window and the difference."""
-    tables = [_years_table(divided, group, False) for group in range(1, len(GROUPS) + 1)]
-    return tables + [_years_table(divided, group, True) for group in range(1, len(GROUPS) + 1)] if weighted else tables
+    return [_years_table(divided, group, of_set) for of_set in (False, True)[: 1 + weighted] for group in range(1, len(GROUPS) + 1)]
+
+
+def shown_years_tables(divided: Divided, weighted: bool) -> List[Table]:
+    """The same for a page: groups without any sums share a table of one row."""
+    empty = [group for group in range(1, len(GROUPS) + 1) if all(divided.of_group(group, of_set).is_empty for of_set in (False, True))]
+    shown = [table for i, table in enumerate(years_tables(divided, weighted)) if i % len(GROUPS) + 1 not in empty]
+    return [*shown, _empty_table(empty)] if empty else shown
+
+
+def _empty_table(groups: Sequence[int]) -> Table:
+    columns = (Column("groups", left=True), Column("durations", "months", left=True), Column("every sum"), Column("difference"))
+    spans = "; ".join(durations(*GROUPS[group - 1]) for group in groups)
+    return Table("Groups without exposure in any part", columns, [Row((", ".join(map(str, groups)), spans, "0", "0"))])
 
 
 def _years_table(divided: Divided, group: int, weighted: bool) -> Table:
-    columns = (Column("part", left=True), Column("exposure", "thirtieths"), *_CLOSING_COLUMNS, *_EXPECTED_COLUMNS, _RATIO)
-    rows = [Row((name, *map(whole, sums), ratio), summary) for name, sums, ratio, summary in _beside(divided, group, weighted)]
-    title = f"Group {group}: durations {durations(*GROUPS[group - 1])} months"
-    return Table(title + (_BENEFIT if weighted else ""), columns, rows)
+    labels = [part.label for part, _ in divided.parts]
+    return beside_table(group_title(group, weighted), "part", beside_rows(labels, divided.of_group(group, weighted)))
 
 
-def _beside(divided: Divided, group: int, weighted: bool) -> List[Tuple[str, GroupSums, str, bool]]:
-    beside: GroupBeside = divided.of_group(group, weighted)
-    rows = [(part.label, sums, actual_to_expected(sums), False) for (part, _), sums in zip(divided.parts, beside.parts)]
-    rows.append(("parts together", beside.together, actual_to_expected(beside.together), True))
-    rows.append(("undivided", beside.whole, actual_to_expected(beside.whole), True))
+def group_title(group: int, weighted: bool) -> str:
+    """A group with its durations, and the set."""
+    return f"Group {group}: durations {durations(*GROUPS[group - 1])} months" + (BENEFIT if weighted else "")
+
+
+Beside = Tuple[str, GroupSums, str, bool]
+"""A row of studies beside each other: its name, sums and actual to expected, and whether it sums up."""
+
+
+def beside_table(title: str, what: str, found: Sequence[Beside], factors: Sequence[Tuple[str, ...]] = ()) -> Table:
+    """A table of such rows, with z, m and T of each where they are given."""
+    columns = (Column(what, left=True), *BESIDE_COLUMNS, *(FACTOR_COLUMNS if factors else ()))
+    more = factors or [()] * len(found)
+    return Table(title, columns, [Row((name, *map(whole, sums), ratio, *own), summary) for (name, sums, ratio, summary), own in zip(found, more)])
+
+
+def beside_rows(labels: Iterable[str], beside: GroupBeside, together: str = "parts together", undivided: str = "undivided") -> List[Beside]:
+    """A row for each study, for all together, for the whole, and for the difference."""
+    rows = [(label, sums, actual_to_expected(sums), False) for label, sums in zip(labels, beside.parts)]
+    rows.append((together, beside.together, actual_to_expected(beside.together), True))
+    rows.append((undivided, beside.whole, actual_to_expected(beside.whole), True))
     rows.append(("difference", beside.difference, "", True))
     return rows
+
+
+def years_sets(divided: Divided) -> Dict[str, List[Dict[str, Any]]]:
+    """Both sets for JSON, group by group: the parts' sums in their order, together, the undivided window's and the difference."""
+    sets: Dict[str, List[Dict[str, Any]]] = {}
+    for name, weighted in (("groups", False), ("weighted", True)):
+        beside = [divided.of_group(group, weighted) for group in range(1, len(GROUPS) + 1)]
+        sets[name] = [
+            {
+                "group": i,
+                "parts": [sums_dict(sums) for sums in group.parts],
+                "together": sums_dict(group.together),
+                "undivided": sums_dict(group.whole),
+                "difference": dict(group.difference._asdict()),
+            }
+            for i, group in enumerate(beside, 1)
+        ]
+    return sets
 
 
 YEARS_CSV_HEADER = ("set", "group", "part", "first_day", "last_day", *SUM_NAMES, "actual_to_expected")
@@ -161,7 +225,8 @@ def years_rows(divided: Divided, weighted: bool) -> List[List[Figure]]:
     days = [*(part for part, _ in divided.parts), window, window, window]
     for of_set in ("count", "weighted") if weighted else ("count",):
         for group in range(1, len(GROUPS) + 1):
-            for (name, sums, ratio, summary), part in zip(_beside(divided, group, of_set == "weighted"), days):
+            beside = beside_rows([part.label for part, _ in divided.parts], divided.of_group(group, of_set == "weighted"))
+            for (name, sums, ratio, summary), part in zip(beside, days):
                 kind = name if summary else "part"
                 rows.append([of_set, group, kind, str(part.first), str(part.last), *sums, ratio.replace(",", "")])
     return rows
@@ -180,12 +245,12 @@ def closings_table(divided: Divided) -> Table:
     rows = [Row((part.label, *_closing_cells(sums))) for (part, _), sums in zip(divided.parts, parts)]
     for name, sums in (("parts together", together), ("undivided", whole_window), ("difference", together.minus(whole_window))):
         rows.append(Row((name, *_closing_cells(sums)), summary=True))
-    columns = (Column("part", left=True), *_EXPOSURE_COLUMNS, *_CLOSING_COLUMNS, Column("closings"))
+    columns = (Column("part", left=True), *EXPOSURE_COLUMNS, *CLOSING_COLUMNS, Column("closings"))
     return Table("Exposure and closings by part, all groups", columns, rows)
 
 
 def _closing_cells(sums: GroupSums) -> Tuple[str, ...]:
-    return (*_exposure_cells(sums), whole(sums.closings))
+    return (*exposure_cells(sums), whole(sums.closings))
 
 
 CLOSINGS_CSV_HEADER = ("block", "place", "number", "closed_on", "category", "duration", "counted_in")
@@ -203,3 +268,33 @@ def closing_list(closed: Iterable[Closing]) -> Table:
     columns = (Column("block"), Column("place"), Column("claim number"), Column("closed on", left=True), Column("category", left=True))
     columns += (Column("duration"), Column("counted in", left=True))
     return Table("Which part counts each closing", columns, [Row(tuple(map(str, closing_row(closing)))) for closing in closed])
+
+
+LEFT_OUT = "Refused and left out"
+FOUND_CSV_HEADER = ("block", "place", "number", "refused", "word", "why", "line")
+_FOUND_COLUMNS = {
+    "block": Column("block"),
+    "place": Column("place"),
+    "line": Column("line"),
+    "number": Column("claim number"),
+    "refused": Column("refused"),
+    "word": Column("word", left=True),
+    "why": Column("why", left=True, wraps=True),
+}
+
+
+def found_dict(found: Found) -> Dict[str, Figure]:
+    """A refusal by name."""
+    return {name: getattr(found, name) for name in FOUND_CSV_HEADER}
+
+
+def found_table(title: str, found: Sequence[Found], more: Sequence[Tuple[Column, Sequence[str]]] = ()) -> Table:
+    """Refusals, with the lines of the CSV where one is known, and more columns after them."""
+    names = [name for name in _FOUND_COLUMNS if name != "line" or any(one.line for one in found)]
+    columns = [*(_FOUND_COLUMNS[name] for name in names), *(column for column, _ in more)]
+    rows = []
+    for i, one in enumerate(found):
+        figures = found_dict(one)
+        known = ["" if figures[name] is None else str(figures[name]) for name in names]
+        rows.append(Row((*known, *(texts[i] for _, texts in more))))
+    return Table(title, columns, rows)

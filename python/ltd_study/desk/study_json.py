@@ -1,14 +1,15 @@
 """A study as JSON, to keep and to pool."""
 
 import json
-from datetime import date
-from typing import Any, Dict, List, NamedTuple
+from typing import Any, Dict, List, NamedTuple, Tuple
 
-from .. import dates
-from ..study import GROUPS, SUM_NAMES, Study, total
-from .reports import group_dict, group_figures, sums_dict
+from ..study import Study, total
+from .checking import Found
+from .reports import found_dict, group_dict, group_figures, sums_dict
+from .saved_figures import hash_in, must_follow, study_in, text_in, whole_in
 
-FORMAT = "ltd study 1"
+FORMAT = "ltd study 2"
+OLDER_FORMATS = ("ltd study 1",)
 _UNITS = {
     "thirtieths": "thirtieths of a month of exposure",
     "expected": "1/30,000,000 of a closing",
@@ -18,24 +19,65 @@ _UNITS = {
 }
 
 
+class Pooled(NamedTuple):
+    """A study that went into a pool."""
+
+    file: str
+    carrier: str
+    claims_sha256: str
+    claims_taken: int
+    corrected: bool
+    repeated_numbers: int
+    """How many claim numbers have more than one record that counts."""
+    left_out: int
+    """How many claims are refused and left out."""
+
+
 class SavedStudy(NamedTuple):
-    """A study, whether corrections were on, and the fingerprint of its rate table."""
+    """A study and what it was made from."""
 
     study: Study
     corrected: bool
+    """Of a pool: whether all its studies are."""
     rates_sha256: str
+    claims_sha256: str = ""
+    """Empty in a pool, whose studies have their own."""
+    carrier: str = ""
+    repeated_numbers: Tuple[int, ...] = ()
+    """The claim numbers of which more than one record counts."""
+    left_out: Tuple[Found, ...] = ()
+    pooled: Tuple[Pooled, ...] = ()
+
+    def as_pooled(self, file: str) -> List[Pooled]:
+        """The studies that this one is in a pool: itself, or those that were pooled before."""
+        if self.pooled:
+            return [one._replace(file=f"{file}: {one.file}") for one in self.pooled]
+        counts = len(self.repeated_numbers), len(self.left_out)
+        return [Pooled(file, self.carrier, self.claims_sha256, self.study.claims_taken, self.corrected, *counts)]
 
 
 def as_dict(saved: SavedStudy) -> Dict[str, Any]:
-    """A study by name: its sums, and what they come to."""
+    """A study by name: its sums, what they come to, and whose claims they are."""
     study = saved.study
     return {
         "format": FORMAT,
         "window": {"first": str(study.first), "last": str(study.last)},
-        "claims_taken": study.claims_taken,
+        "carrier": saved.carrier,
         "corrected": saved.corrected,
+        "claims_sha256": saved.claims_sha256,
         "rates_sha256": saved.rates_sha256,
+        "repeated_numbers": list(saved.repeated_numbers),
+        "left_out": [found_dict(found) for found in saved.left_out],
+        "pooled": [one._asdict() for one in saved.pooled],
         "units": _UNITS,
+        **sums_by_group(study),
+    }
+
+
+def sums_by_group(study: Study) -> Dict[str, Any]:
+    """Claims taken and both sets of sums by name, with what they come to."""
+    return {
+        "claims_taken": study.claims_taken,
         "groups": [group_dict(*group) for group in group_figures(study, False)],
         "total": sums_dict(total(study.groups)),
         "weighted": [group_dict(*group) for group in group_figures(study, True)],
@@ -43,39 +85,54 @@ def as_dict(saved: SavedStudy) -> Dict[str, Any]:
     }
 
 
-def to_json(saved: SavedStudy) -> str:
-    """The text that ``./ltd study --json`` prints."""
-    return json.dumps(as_dict(saved), indent=2) + "\n"
+def to_json(saved: SavedStudy, **more: Any) -> str:
+    """The text that ``./ltd study --json`` prints; what is given more stands after the study and is not read back."""
+    return json.dumps({**as_dict(saved), **more}, indent=2) + "\n"
 
 
 def of_json(text: str) -> SavedStudy:
-    """The study of such a text, by its sums alone. Raises ValueError with the reason."""
+    """The study of such a text. Raises ValueError with the reason, also where a figure doesn't follow from the sums."""
     try:
         found = json.loads(text)
     except ValueError as error:
         raise ValueError(f"no JSON: {error}") from None
-    if not isinstance(found, dict) or found.get("format") != FORMAT:
+    return of_dict(found)
+
+
+def of_dict(found: Any) -> SavedStudy:
+    """The same, of what the JSON holds."""
+    form = found.get("format") if isinstance(found, dict) else None
+    if form in OLDER_FORMATS:
+        raise ValueError(f'saved as "{form}" by an older ./ltd, which kept no hash of its claims: save it again')
+    if form != FORMAT:
         raise ValueError(f"no study saved by './ltd study --json': it has no \"format\": \"{FORMAT}\"")
     try:
-        numbers = [*(_day(found["window"][end]) for end in ("first", "last")), _whole(found["claims_taken"], "claims_taken")]
-        for name in ("groups", "weighted"):
-            numbers += _sums(found[name], name)
-        return SavedStudy(Study(numbers), bool(found["corrected"]), str(found["rates_sha256"]))
-    except (KeyError, TypeError) as error:
+        saved = _saved(found)
+        _must_be_its_pool(saved)
+        must_follow(found, as_dict(saved))
+    except (KeyError, TypeError, AttributeError, OverflowError) as error:
         raise ValueError(f"a part of the study is missing or not as it was saved: {error}") from None
+    return saved
 
 
-def _day(text: str) -> int:
-    return dates.day_number(date.fromisoformat(text))
+def _saved(found: Dict[str, Any]) -> SavedStudy:
+    """As it stands there, by its sums alone."""
+    left_out = [Found(*(one[name] for name in Found._fields)) for one in found["left_out"]]
+    pooled = [_pooled(one) for one in found["pooled"]]
+    texts = [hash_in(found["rates_sha256"], "rates_sha256"), found["claims_sha256"], text_in(found["carrier"], "carrier")]
+    if not pooled or texts[1] != "":
+        hash_in(texts[1], "claims_sha256")
+    repeated = tuple(whole_in(number, "a repeated number") for number in found["repeated_numbers"])
+    return SavedStudy(study_in(found), found["corrected"] is True, *texts, repeated, tuple(left_out), tuple(pooled))
 
 
-def _whole(number: Any, name: str) -> int:
-    if type(number) is not int:
-        raise TypeError(f"{name} is no whole number")
-    return number
+def _pooled(one: Dict[str, Any]) -> Pooled:
+    texts = [text_in(one["file"], "file"), text_in(one["carrier"], "carrier"), hash_in(one["claims_sha256"], "claims_sha256")]
+    counts = [whole_in(one[name], name) for name in ("claims_taken", "repeated_numbers", "left_out")]
+    return Pooled(*texts, counts[0], one["corrected"] is True, *counts[1:])
 
 
-def _sums(groups: List[Dict[str, Any]], name: str) -> List[int]:
-    if len(groups) != len(GROUPS) or [group["group"] for group in groups] != list(range(1, len(GROUPS) + 1)):
-        raise TypeError(f"{name} are not the five groups in their order")
-    return [_whole(group[sum_name], sum_name) for group in groups for sum_name in SUM_NAMES]
+def _must_be_its_pool(saved: SavedStudy) -> None:
+    pooled, taken = sum(one.claims_taken for one in saved.pooled), saved.study.claims_taken
+    if saved.pooled and pooled != taken:
+        raise ValueError(f"claims_taken is {taken:,}, and that of its pooled studies together {pooled:,}")

@@ -6,18 +6,20 @@ _LONGEST_RULE = 120
 
 
 class Column(NamedTuple):
-    """A heading, what it counts in, and on which side its texts stand."""
+    """A heading, what it counts in, on which side its texts stand, and whether a page may set them in lines."""
 
     heading: str
     unit: str = ""
     left: bool = False
+    wraps: bool = False
 
 
 class Row(NamedTuple):
-    """The texts of a row; one that sums up is set apart."""
+    """The texts of a row; one that sums up is set apart, one of a group without any sums may be folded."""
 
     cells: Tuple[str, ...]
     summary: bool = False
+    empty: bool = False
 
 
 class Table(NamedTuple):
@@ -26,6 +28,18 @@ class Table(NamedTuple):
     title: str
     columns: Sequence[Column]
     rows: Sequence[Row]
+
+
+def folded(table: Table) -> Table:
+    """The table with its empty rows as one, after the others; it has the figures that are theirs alike."""
+    empty = [row.cells for row in table.rows if row.empty]
+    if not empty:
+        return table
+    alike = [texts[0] if len(set(texts)) == 1 else "" for texts in zip(*empty)]
+    one = Row((", ".join(cells[0] for cells in empty), "no exposure", *alike[2:]), empty=True)
+    full = [row for row in table.rows if not row.empty]
+    summaries = [row for row in full if row.summary]
+    return table._replace(rows=[*(row for row in full if not row.summary), one, *summaries])
 
 
 def printed(table: Table) -> str:
