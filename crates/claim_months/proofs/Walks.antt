@@ -1,21 +1,21 @@
 -- The month walk that ends with the exposure gives the month records.
 -- Assumes nothing.
-use Prim.Native.Nat.{ℕ, zero, suc, _+_, _-_, _≤_, _<_}
+use Prim.Native.Nat.{ℕ, zero, suc, _+_, _-_, _≤_, _<_, min}
 use mathlib.Core.Path.{_≡_, refl, sym, ap, _∙_}
 use mathlib.Core.Bool.{Bool, true, false, _&&_, and-false}
 use mathlib.Core.List.{List, [], _∷_}
 use lib.Dec.{leb, ltb}
 use borrow.Author.Tests.{lt-leb, ltb-true}
 use Rattle.basics.specs.Pick.{pick}
-use Rattle.basics.proofs.Tests.{tests, pick-is}
+use Rattle.basics.proofs.Tests.{tests, by, pick-is}
 use Rattle.calendar.specs.Calendar.{lastDayNumber}
 use Rattle.claim_months.specs.declared.Claim.{Claim}
-use Rattle.claim_months.specs.Claim.{isClosed, claimCheck}
+use Rattle.claim_months.specs.Claim.{isClosed, terminationDay, claimCheck}
 use Rattle.claim_months.specs.ClaimMonths.{monthFirst, monthLast}
 use Rattle.claim_months.specs.Exposure.{exposedFrom, exposedTo, meets, MonthRecord, monthRecord, recordsFrom, monthRecords}
 use Rattle.claim_months.specs.Walk.{walkFrom, MonthWalk, MonthWalks}
 use Rattle.claim_months.proofs.Sound.{Sound, sound}
-use Rattle.claim_months.proofs.Months.{starts-rise}
+use Rattle.claim_months.proofs.Months.{starts-rise, months-end}
 
 module _ (c : Claim) (ok : Sound c) (b e : ℕ) where
   -- a claim month that starts after the last exposed day doesn't meet the exposure, nor does one after it
@@ -41,12 +41,17 @@ module _ (c : Claim) (ok : Sound c) (b e : ℕ) where
       let next = walks n (suc k) (omega tests) in
       rw next (pick-is (ltb (exposedTo c e) (monthFirst c k)) (λ q. sym (none (suc n) k k hk (omega tests) (omega tests))) (λ q. refl))
 
+not-after : (c : Claim) (e : ℕ) → exposedTo c e ≤ e
+unfolding exposedTo
+not-after c e = by (isClosed c) (λ y. pick y (min e (terminationDay c)) e ≤ e) (λ q. omega tests) (λ q. omega tests)
+
 pub month-walks : MonthWalks
-unfolding monthRecords exposedTo
+unfolding monthRecords
 month-walks c b e h =
     let ok = sound c h in
     record {
       gives = walks c ok b e 1800 1 (omega tests);
       none-later = later c ok b e;
-      to-the-end = λ k o q l. rw (o, q) at l;
+      outside = months-end c (ok .bcd-date);
+      never-short = λ h. let m = months-end c (ok .bcd-date) in let l = not-after c e in omega tests;
     }

@@ -74,7 +74,7 @@ recordsFrom c b e k zero = []
 recordsFrom c b e k (suc n) =
     pick (meets c b e k) (monthRecord c b e k ∷ recordsFrom c b e (suc k) n) (recordsFrom c b e (suc k) n)
 
--- The month records: one for every claim month that meets f..l. Claim month 1,801 starts after 2099-12-31 (`months-end` in proofs/)
+-- The month records: one for every claim month that meets f..l. Claim month 1,801 starts after 2099-12-31 (`MonthWalk` in `Walk`)
 unfoldable pub monthRecords : Claim → ℕ → ℕ → List MonthRecord
 monthRecords c b e = recordsFrom c b e 1 1800
 

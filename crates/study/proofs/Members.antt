@@ -85,16 +85,22 @@ times-first : (c : Claim) (cs : List Claim) → timesIn c (c ∷ cs) ≡ 1 + tim
 unfolding timesIn
 times-first c cs = rw (claim-self c)
 
+-- a list with the same claims as another has that one's first claim, and without it those of the rest
+rest-same : (c : Claim) (cs ds : List Claim) → SameClaims (c ∷ cs) ds → (0 < timesIn c ds) × SameClaims cs (without c ds)
+unfolding timesIn
+rest-same c cs ds same =
+    let here = times-first c cs in
+    let all = same c in
+    let among : 0 < timesIn c ds = omega tests in
+    (among, λ d. let s = same d in let t = times-same d ds (c ∷ without c ds) (to-front c ds among) in omega tests)
+
 pub same-sums : (cs ds : List Claim) → SameClaims cs ds → SameSums cs ds
 unfolding timesIn sumOver
 same-sums [] [] same A add z Good laws f good = refl
 same-sums [] (d ∷ ds) same A add z Good laws f good = let t = times-first d ds in let s = same d in absurd (omega tests)
 same-sums (c ∷ cs) ds same A add z Good laws f good =
-    let here = times-first c cs in
-    let all = same c in
-    let fore = to-front c ds (omega tests) in
-    let rest : SameClaims cs (without c ds) = λ d. let s = same d in let t = times-same d ds (c ∷ without c ds) fore in omega tests in
-    ap (add (f c)) (same-sums cs (without c ds) rest A add z Good laws f good) ∙ sym (fore A add z Good laws f good)
+    let (among, rest) = rest-same c cs ds same in
+    ap (add (f c)) (same-sums cs (without c ds) rest A add z Good laws f good) ∙ sym (to-front c ds among A add z Good laws f good)
 
 -- what holds of every claim of a list holds of one that is among it, and of those that remain without it
 pub all-in : (P : Claim → Type 0) (c : Claim) (cs : List Claim) → All P cs → 0 < timesIn c cs → P c
@@ -109,6 +115,13 @@ unfolding without
 all-without P c [] a = a
 all-without P c (x ∷ xs) a =
     by (sameClaim x c) (λ y. All P (pick y xs (x ∷ without c xs))) (λ q. a .1) (λ q. (a .0, all-without P c xs (a .1)))
+
+-- and of every claim of a list with the same claims
+pub all-same : (P : Claim → Type 0) (cs ds : List Claim) → SameClaims cs ds → All P ds → All P cs
+all-same P [] ds same a = tt
+all-same P (c ∷ cs) ds same a =
+    let (among, rest) = rest-same c cs ds same in
+    (all-in P c ds a among, all-same P cs (without c ds) rest (all-without P c ds a))
 
 pub length-without : (c : Claim) (cs : List Claim) → length (without c cs) ≤ length cs
 unfolding without

@@ -22,13 +22,13 @@ use Rattle.study.specs.declared.Answer.{Answer}
 use Rattle.study.specs.Sums.{none, plus, within}
 use Rattle.study.specs.Study.{shareOf, studyOf, opened}
 use Rattle.study.specs.Moves.{remaining}
-use Rattle.study.specs.Joining.{sameWindow, joinRoom, joinCheck, together, joined, addedAll, Pool, poolAnswer, poolClaims, poolWindow, Poolable, PoolsClaims, Pooling}
+use Rattle.study.specs.Joining.{sameWindow, joinRoom, joinCheck, together, joined, addedAll, Pool, poolAnswer, poolClaims, poolWindow, Poolable, PoolsClaims, Pooling, SameClaims}
 use Rattle.study.proofs.Algebra.{Shaped}
-use Rattle.study.proofs.SumOver.{All, sums, sum-append}
+use Rattle.study.proofs.SumOver.{All, sums, sum-append, same-length}
 use Rattle.study.proofs.Capacity.{Accepted as AcceptedClaim, share-shaped, built-within}
 use Rattle.study.proofs.Built.{study-same, added-built}
 use Rattle.study.proofs.Totals.{built-total}
-use Rattle.study.proofs.Members.{front, same-sums, all-append}
+use Rattle.study.proofs.Members.{front, same-sums, all-same, all-append}
 use Rattle.study.proofs.TakenBack.{Kept, remaining-kept, accepted-window, opened-built, moved-study}
 
 -- the claims of two studies together
@@ -126,11 +126,16 @@ module _ (rates : List ℕ) (p : Pool) (ok : Poolable rates p) where
         (pooled
         ∙ joined-built (poolWindow p) rates xs ys kept-xs kept-ys (accepted-window (p .dates) (ok .0)) h)
 
-    pool-added : addedAll rates (opened (p .dates .first) (p .dates .last) .study) (poolClaims rates p) ≡ studyOf (poolWindow p) rates (poolClaims rates p)
-    pool-added =
-        ap (λ (s : Study). addedAll rates s (poolClaims rates p)) (opened-built rates (p .dates) (ok .0))
-        ∙ all-added (poolWindow p) rates (accepted-window (p .dates) (ok .0)) (poolClaims rates p) [] (pool-kept .accepted) tt (omega tests)
-        ∙ ap (studyOf (poolWindow p) rates) (append-nil (poolClaims rates p))
+    pool-added : (cs : List Claim) → SameClaims cs (poolClaims rates p)
+        → addedAll rates (opened (p .dates .first) (p .dates .last) .study) cs ≡ studyOf (poolWindow p) rates (poolClaims rates p)
+    pool-added cs same =
+        let same-sum = same-sums cs (poolClaims rates p) same in
+        let n = same-length cs (poolClaims rates p) same-sum in
+        ap (λ (s : Study). addedAll rates s cs) (opened-built rates (p .dates) (ok .0))
+        ∙ all-added (poolWindow p) rates (accepted-window (p .dates) (ok .0)) cs []
+        (all-same (AcceptedClaim rates) cs (poolClaims rates p) same (pool-kept .accepted)) tt (omega tests)
+        ∙ ap (studyOf (poolWindow p) rates) (append-nil cs)
+        ∙ study-same (poolWindow p) rates cs (poolClaims rates p) same-sum
 
 -- a pool with the claims of another up to order
 pool-same : (rates : List ℕ) (cs : List Claim) (p : Pool) → PoolsClaims rates cs p → poolAnswer rates p .study ≡ studyOf (poolWindow p) rates cs
@@ -142,7 +147,7 @@ pooling =
     record {
       answer = pool-number;
       study = pool-study;
-      added-study = λ rates p ok h. pool-study rates p ok h ∙ sym (pool-added rates p ok h);
+      added-study = λ rates p cs ok h same. pool-study rates p ok h ∙ sym (pool-added rates p ok h cs same);
       parts-total = λ rates whole part parts ok ps.
           let cs = poolClaims rates whole in
           let b = poolWindow whole .first .0 in

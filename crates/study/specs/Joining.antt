@@ -81,11 +81,13 @@ pub record Pooling : Type 0 where
   -- the answer is 0 exactly if together they hold at most 500,000 claims, else 9
   pub answer : (rates : List ℕ) (p : Pool) → Poolable rates p
       → poolAnswer rates p .refused ≡ pick (leb (length (poolClaims rates p)) most-claims) 0 refuse-full
-  -- then the study is that of both lists of claims remaining, one after the other, and the one that adding these lists to a fresh study returns
+  -- then the study is that of both lists of claims remaining, one after the other, and the one that adding their claims, in any order, to a fresh study
+  -- returns
   pub study : (rates : List ℕ) (p : Pool) → Poolable rates p → length (poolClaims rates p) ≤ most-claims
       → poolAnswer rates p .study ≡ studyOf (poolWindow p) rates (poolClaims rates p)
-  pub added-study : (rates : List ℕ) (p : Pool) → Poolable rates p → length (poolClaims rates p) ≤ most-claims
-      → poolAnswer rates p .study ≡ addedAll rates (opened (p .dates .first) (p .dates .last) .study) (poolClaims rates p)
+  pub added-study : (rates : List ℕ) (p : Pool) (cs : List Claim) → Poolable rates p → length (poolClaims rates p) ≤ most-claims
+      → SameClaims cs (poolClaims rates p)
+      → poolAnswer rates p .study ≡ addedAll rates (opened (p .dates .first) (p .dates .last) .study) cs
   -- where a whole window and its consecutive parts are pooled likewise, the pooled parts total the pooled whole in both sets
   pub parts-total : (rates : List ℕ) (whole part : Pool) (parts : List Pool) → PoolsClaims rates (poolClaims rates whole) whole
       → Parts (PoolsClaims rates (poolClaims rates whole)) poolWindow (poolWindow whole .first .0) (poolWindow whole .last .0) part parts
