@@ -33,9 +33,10 @@ use Rattle.claim_file.specs.declared.WindowDates.{WindowDates}
 use Rattle.claim_file.specs.declared.CorrectedRun.{CorrectedRun}
 use Rattle.claim_file.specs.Bytes.{dateFrom}
 use Rattle.claim_file.specs.Block.{blockSound, windowBytes}
+use Rattle.claim_file.specs.Run.{adding}
 use Rattle.claim_file.specs.Files.{Accepts, windowDays}
 use Rattle.claim_file.specs.RoundTrip.{DateFits}
-use Rattle.claim_file.specs.Corrections.{PlacedClaim, recordsOfBlocks, soundBlocks, lastOnes, recordsAdded, correctedRun, correctedOf, SameCorrectedEnd, CorrectedDemand3}
+use Rattle.claim_file.specs.Corrections.{PlacedClaim, recordsOfBlocks, soundBlocks, lastOnes, recordsAdded, correctedRunWith, correctedOf, SameCorrectedEnd, CorrectedDemand3}
 use Rattle.claim_file.proofs.BlockTrips.{window-sound, window-first, window-last}
 use Rattle.claim_file.proofs.Runs.{sound}
 use Rattle.claim_file.proofs.BlockZero.{first-date, sound-behind, records-behind, all-behind}
@@ -71,14 +72,14 @@ module _ (rates : List ℕ) where
   withStudy w p = record { study = studyOf w rates (p .claims); refused = p .refused; block = p .block; place = p .place }
 
   adds-so : (w : Window) → windowSound (w .first .0) (w .last .0) ≡ true → (rs : List PlacedClaim) (cs : List Claim) → All (Accepted rates) cs
-      → recordsAdded rates (studyOf w rates cs) rs ≡ withStudy w (adds cs rs)
+      → recordsAdded (adding rates) (studyOf w rates cs) rs ≡ withStudy w (adds cs rs)
   unfolding recordsAdded adds
   adds-so w ok [] cs a = refl
   adds-so w ok (r ∷ rs) cs a =
       let c = r .claim in
       let m = numberAfter rates cs c in
       let step : Study → ℕ → Bool → CorrectedRun =
-      λ s n t. pick t (recordsAdded rates s rs) (record { study = s; refused = n; block = r .block; place = r .place }) in
+      λ s n t. pick t (recordsAdded (adding rates) s rs) (record { study = s; refused = n; block = r .block; place = r .place }) in
       ap (λ (x : Answer). step (x .study) (x .refused) (eqb (x .refused) 0)) (added-after w rates ok cs c a)
       ∙ by (eqb m 0) (λ t. step (studyOf w rates (pick t (c ∷ cs) cs)) m t ≡ withStudy w (pick t (adds (c ∷ cs) rs) (course cs m (r .block) (r .place))))
       (λ e. adds-so w ok rs (c ∷ cs) (zero-accepted rates cs c (eqb-true m 0 e), a)) (λ e. refl)
@@ -169,10 +170,10 @@ module _ (rates rest : List ℕ) where
     -- the run by its tests
     run-is : correctedOf rates rest w
         ≡ pick allBehind
-        (pick (leb (length records) 60000) (recordsAdded rates (studyOf (windowDays w) rates []) (lastOnes records))
+        (pick (leb (length records) 60000) (recordsAdded (adding rates) (studyOf (windowDays w) rates []) (lastOnes records))
         (record { study = studyOf (windowDays w) rates []; refused = refuse-too-many-records; block = 0; place = 0 }))
         (record { study = fresh firstDayAlone; refused = refuse-block; block = suc soundCount; place = 0 })
-    unfolding correctedOf correctedRun
+    unfolding correctedOf correctedRunWith
     run-is =
         let z : windowAnswer (front ++ rest) .refused ≡ 0 = ap (λ (a : Answer). a .refused) file-window ∙ ok in
         rw (
@@ -187,7 +188,7 @@ module _ (rates rest : List ℕ) where
     unfolding courseBehind
     run-follows =
         let p = adds rates [] (lastOnes records) in
-        let run = recordsAdded rates (studyOf (windowDays w) rates []) (lastOnes records) in
+        let run = recordsAdded (adding rates) (studyOf (windowDays w) rates []) (lastOnes records) in
         let many-run = withStudy rates (windowDays w) tooMany in
         let bad-run : CorrectedRun = record { study = fresh firstDayAlone; refused = refuse-block; block = suc soundCount; place = 0 } in
         let few = leb (length records) 60000 in

@@ -16,11 +16,11 @@ use Rattle.basics.proofs.Tests.{by}
 use Rattle.claim_months.specs.declared.Claim.{Claim}
 use Rattle.study.specs.declared.Study.{Study}
 use Rattle.study.specs.declared.Answer.{Answer}
-use Rattle.study.specs.Study.{added}
 use Rattle.claim_file.specs.declared.CorrectedRun.{CorrectedRun}
 use Rattle.claim_file.specs.Bytes.{byteAt}
 use Rattle.claim_file.specs.Block.{blockClaim, blockSound}
-use Rattle.claim_file.specs.Corrections.{PlacedClaim, recordsOfBlock, recordsOfBlocks, fileRecords, soundBlocks, allSound, hasNumber, lastOnes, recordsAdded, correctedRun}
+use Rattle.claim_file.specs.Run.{Adding}
+use Rattle.claim_file.specs.Corrections.{PlacedClaim, recordsOfBlock, recordsOfBlocks, fileRecords, soundBlocks, allSound, hasNumber, lastOnes, recordsAdded, correctedRunWith}
 use Rattle.claim_file.specs.Marks.{numbersOf, among, superseded, marked, MarksSuperseded, unlessSuperseded, unsoundAt}
 use Rattle.claim_file.proofs.Runs.{sound, sound-due}
 use Rattle.claim_file.proofs.BlockZero.{sound-first, sound-file, file-records}
@@ -129,7 +129,7 @@ orNone t x = pick t [] (x ∷ [])
 abbrev pub go : Study → CorrectedRun
 go s = record { study = s; refused = 0; block = 0; place = 0 }
 
-module _ (rates : List ℕ) where
+module _ (add : Adding) where
   last-first : (t : Bool) (x : PlacedClaim) (rest : List PlacedClaim) → t ≡ hasNumber (x .claim .number) rest
       → lastOnes (x ∷ rest) ≡ orNone t x ++ lastOnes rest
   unfolding lastOnes
@@ -137,26 +137,26 @@ module _ (rates : List ℕ) where
   last-first false x rest e = rw (sym e) refl
 
   first-then : (t : Bool) (x : PlacedClaim) (ys : List PlacedClaim) (s : Study)
-      → let r = recordsAdded rates s (orNone t x) in
-      recordsAdded rates s (orNone t x ++ ys) ≡ pick (eqb (r .refused) 0) (recordsAdded rates (r .study) ys) r
+      → let r = recordsAdded add s (orNone t x) in
+      recordsAdded add s (orNone t x ++ ys) ≡ pick (eqb (r .refused) 0) (recordsAdded add (r .study) ys) r
   unfolding recordsAdded
   first-then true x ys s = refl
   first-then false x ys s =
-      let a = added s (x .claim) rates in
+      let a = add s (x .claim) in
       let stop : CorrectedRun = record { study = a .study; refused = a .refused; block = x .block; place = x .place } in
       by (eqb (a .refused) 0)
       (λ t.
-      pick t (recordsAdded rates (a .study) ys) stop
-      ≡ pick (eqb (pick t (go (a .study)) stop .refused) 0) (recordsAdded rates (pick t (go (a .study)) stop .study) ys) (pick t (go (a .study)) stop))
+      pick t (recordsAdded add (a .study) ys) stop
+      ≡ pick (eqb (pick t (go (a .study)) stop .refused) 0) (recordsAdded add (pick t (go (a .study)) stop .study) ys) (pick t (go (a .study)) stop))
       (λ e. refl) (λ e. rw e refl)
 
   first-goes : (t : Bool) (x : PlacedClaim) (s : Study)
-      → let r = recordsAdded rates s (orNone t x) in
+      → let r = recordsAdded add s (orNone t x) in
       r .refused ≡ 0 → r ≡ go (r .study)
   unfolding recordsAdded
   first-goes true x s = λ h. refl
   first-goes false x s =
-      let a = added s (x .claim) rates in
+      let a = add s (x .claim) in
       let stop : CorrectedRun = record { study = a .study; refused = a .refused; block = x .block; place = x .place } in
       by (eqb (a .refused) 0)
       (λ t. pick t (go (a .study)) stop .refused ≡ 0 → pick t (go (a .study)) stop ≡ go (pick t (go (a .study)) stop .study))
@@ -166,7 +166,7 @@ module _ (rates : List ℕ) where
   pub record Left (all : List PlacedClaim) (from run : CorrectedRun) (index : ℕ) (first rest : List PlacedClaim) : Type 0 where
     pub behind : drop index all ≡ rest
     pub onward : run ≡ go (run .study)
-    pub same : recordsAdded rates (from .study) (lastOnes first) ≡ recordsAdded rates (run .study) (lastOnes rest)
+    pub same : recordsAdded add (from .study) (lastOnes first) ≡ recordsAdded add (run .study) (lastOnes rest)
 
   pub left-first : (all : List PlacedClaim) (run : CorrectedRun) (index : ℕ) (rest : List PlacedClaim) → drop index all ≡ rest → run ≡ go (run .study)
       → Left all run run index rest rest
@@ -182,19 +182,19 @@ module _ (rates : List ℕ) where
   left-on all from run after index next first rest last h k = record { behind = k .behind; onward = k .onward; same = h .same ∙ k .same }
 
   pub left-none : (all : List PlacedClaim) (from run : CorrectedRun) (index : ℕ) (first : List PlacedClaim) → Left all from run index first []
-      → run ≡ recordsAdded rates (from .study) (lastOnes first)
+      → run ≡ recordsAdded add (from .study) (lastOnes first)
   unfolding recordsAdded lastOnes
   left-none all from run index first h = h .onward ∙ sym (h .same)
 
   module _ (all : List PlacedClaim) (from run : CorrectedRun) (index : ℕ) (first : List PlacedClaim) (x : PlacedClaim) (rest : List PlacedClaim)
       (left : Left all from run index first (x ∷ rest)) (t : Bool) (m : t ≡ hasNumber (x .claim .number) rest) (after : CorrectedRun)
-      (r : after ≡ recordsAdded rates (run .study) (orNone t x)) where
-    added-one : recordsAdded rates (from .study) (lastOnes first) ≡ pick (eqb (after .refused) 0) (recordsAdded rates (after .study) (lastOnes rest)) after
+      (r : after ≡ recordsAdded add (run .study) (orNone t x)) where
+    added-one : recordsAdded add (from .study) (lastOnes first) ≡ pick (eqb (after .refused) 0) (recordsAdded add (after .study) (lastOnes rest)) after
     added-one =
         left .same
-        ∙ ap (recordsAdded rates (run .study)) (last-first t x rest m)
+        ∙ ap (recordsAdded add (run .study)) (last-first t x rest m)
         ∙ first-then t x (lastOnes rest) (run .study)
-        ∙ ap (λ (a : CorrectedRun). pick (eqb (a .refused) 0) (recordsAdded rates (a .study) (lastOnes rest)) a) (sym r)
+        ∙ ap (λ (a : CorrectedRun). pick (eqb (a .refused) 0) (recordsAdded add (a .study) (lastOnes rest)) a) (sym r)
 
     pub left-step : after .refused ≡ 0 → Left all from after (index + 1) first rest
     left-step h =
@@ -204,7 +204,7 @@ module _ (rates : List ℕ) where
           same = added-one ∙ rw (eq-eqb (after .refused) 0 h) refl;
         }
 
-    pub left-stop : (after .refused ≡ 0 → ⊥) → after ≡ recordsAdded rates (from .study) (lastOnes first)
+    pub left-stop : (after .refused ≡ 0 → ⊥) → after ≡ recordsAdded add (from .study) (lastOnes first)
     left-stop h = sym (added-one ∙ rw (ne-eqb (after .refused) 0 h) refl)
 
 -- The records left in a block and in the blocks behind it
@@ -254,33 +254,33 @@ unfolding recordsOfBlocks
 file-done bytes b h = let p : length bytes / 512 - b ≡ 0 = omega arith in ap (recordsFrom bytes b) p
 
 -- One record added, unless it is superseded
-module _ (rates : List ℕ) (c : Claim) (b place : ℕ) (t : Bool) (s : Study) where
-  pub none-added : t ≡ true → go s ≡ recordsAdded rates s (unlessSuperseded t c b place)
+module _ (add : Adding) (c : Claim) (b place : ℕ) (t : Bool) (s : Study) where
+  pub none-added : t ≡ true → go s ≡ recordsAdded add s (unlessSuperseded t c b place)
   unfolding recordsAdded unlessSuperseded
   none-added e = sym (rw e refl)
 
-  module _ (e : t ≡ false) (a : Answer) (p : a ≡ added s c rates) where
-    one-so : recordsAdded rates s (unlessSuperseded t c b place)
+  module _ (e : t ≡ false) (a : Answer) (p : a ≡ add s c) where
+    one-so : recordsAdded add s (unlessSuperseded t c b place)
         ≡ pick (eqb (a .refused) 0) (go (a .study)) (record { study = a .study; refused = a .refused; block = b; place = place })
     unfolding recordsAdded unlessSuperseded
     one-so = rw (e, p) refl
 
-    pub one-added : a .refused ≡ 0 → go (a .study) ≡ recordsAdded rates s (unlessSuperseded t c b place)
+    pub one-added : a .refused ≡ 0 → go (a .study) ≡ recordsAdded add s (unlessSuperseded t c b place)
     one-added h = sym (one-so ∙ rw (eq-eqb (a .refused) 0 h) refl)
 
     pub one-refused : (a .refused ≡ 0 → ⊥)
-        → record { study = a .study; refused = a .refused; block = b; place = place } ≡ recordsAdded rates s (unlessSuperseded t c b place)
+        → record { study = a .study; refused = a .refused; block = b; place = place } ≡ recordsAdded add s (unlessSuperseded t c b place)
     one-refused h = sym (one-so ∙ rw (ne-eqb (a .refused) 0 h) refl)
 
 -- What a run answers behind each check
-module _ (rates bytes : List ℕ) where
-  pub corrected-unsound : (m : ℕ) → m ≡ soundBlocks 0 bytes (length bytes / 512) → (AllSound bytes → ⊥) → unsoundAt m ≡ correctedRun rates bytes
-  unfolding correctedRun unsoundAt
+module _ (add : Adding) (bytes : List ℕ) where
+  pub corrected-unsound : (m : ℕ) → m ≡ soundBlocks 0 bytes (length bytes / 512) → (AllSound bytes → ⊥) → unsoundAt m ≡ correctedRunWith add bytes
+  unfolding correctedRunWith unsoundAt
   corrected-unsound m e h =
       let f : allSound bytes ≡ false = by (allSound bytes) (λ t. t ≡ false) (λ s. absurd (h (all-sound bytes s))) (λ _. refl) in
       ap unsoundAt e ∙ sym (rw f refl)
 
   pub corrected-many : allSound bytes ≡ true → windowAnswer bytes .refused ≡ 0 → 60000 < length (fileRecords bytes)
-      → correctedRun rates bytes ≡ record { study = windowAnswer bytes .study; refused = refuse-too-many-records; block = 0; place = 0 }
-  unfolding correctedRun
+      → correctedRunWith add bytes ≡ record { study = windowAnswer bytes .study; refused = refuse-too-many-records; block = 0; place = 0 }
+  unfolding correctedRunWith
   corrected-many s h many = rw (s, eq-eqb (windowAnswer bytes .refused) 0 h, lt-leb (length (fileRecords bytes)) 60000 many) refl

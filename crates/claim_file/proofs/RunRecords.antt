@@ -16,13 +16,13 @@ use Rattle.basics.proofs.Tests.{by}
 use Rattle.claim_months.specs.declared.Claim.{Claim}
 use Rattle.study.specs.declared.Study.{Study}
 use Rattle.study.specs.declared.Answer.{Answer}
-use Rattle.study.specs.Study.{opened, added}
+use Rattle.study.specs.Study.{opened}
 use Rattle.claim_file.specs.declared.FileRun.{FileRun}
 use Rattle.claim_file.specs.declared.CorrectedRun.{CorrectedRun}
 use Rattle.claim_file.specs.Bytes.{dateFrom}
 use Rattle.claim_file.specs.Block.{blockClaim, claimCount, blockSound}
 use Rattle.claim_file.specs.BlockAnswers.{noClaim}
-use Rattle.claim_file.specs.Run.{adding, started, begun, goesOn, stops, claimsFrom, blockFed, blocksFed, partFed, fed, ended, fileRunWith, fileRun}
+use Rattle.claim_file.specs.Run.{Adding, started, begun, goesOn, stops, claimsFrom, blockFed, blocksFed, partFed, fed, ended, fileRunWith}
 use Rattle.claim_file.specs.Corrections.{PlacedClaim, recordsOfBlock, recordsOfBlocks, fileRecords, claimsOf, blocksOf, placesOf, soundBlocks, recordsAdded, SameStop}
 use Rattle.claim_file.proofs.Runs.{sound, blocks-refused, fed-block, stops-refused}
 use Rattle.claim_file.proofs.BlockZero.{first-date, sound-first, SoundFile, file-records}
@@ -52,40 +52,40 @@ ended-onward : (s : Study) (d : ℕ) → ended (onward s (suc d)) ≡ onward s (
 unfolding ended
 ended-onward s d = rw (ne-eqb (suc d) 0 (λ (q : suc d ≡ 0). omega arith))
 
-module _ (rates : List ℕ) where
+module _ (add : Adding) where
   -- a refusal of one block's claims stands, whatever blocks come behind it
   stopped : (d : ℕ) (s : Study) (a : Answer) (place : ℕ) (rest : List ℕ) (m : ℕ) → eqb (a .refused) 0 ≡ false
-      → outcome (ended (blocksFed (stops (onward s d) (a .study) (a .refused) place) (adding rates) rest m))
+      → outcome (ended (blocksFed (stops (onward s d) (a .study) (a .refused) place) add rest m))
       ≡ record { study = a .study; refused = a .refused; block = d; place = place }
   unfolding stops
   stopped d s a place rest m e =
       let h = stops-refused (onward s d) (a .study) (a .refused) place (eqb-false (a .refused) 0 e) in
-      ap (λ (r : FileRun). outcome (ended r)) (blocks-refused (stops (onward s d) (a .study) (a .refused) place) (adding rates) rest h m)
+      ap (λ (r : FileRun). outcome (ended r)) (blocks-refused (stops (onward s d) (a .study) (a .refused) place) add rest h m)
       ∙ ap outcome (ended-refused (stops (onward s d) (a .study) (a .refused) place) h)
 
   -- the blocks behind one of number d, fed to any study
   abbrev AddsBehind : ℕ → List ℕ → ℕ → Type 0
   AddsBehind d rest m =
-      (s : Study) → outcome (ended (blocksFed (onward s (suc d)) (adding rates) rest m)) ≡ recordsAdded rates s (recordsOfBlocks rest (suc d) m)
+      (s : Study) → outcome (ended (blocksFed (onward s (suc d)) add rest m)) ≡ recordsAdded add s (recordsOfBlocks rest (suc d) m)
 
   claims-added : (d : ℕ) (bytes rest : List ℕ) (m : ℕ) → AddsBehind d rest m → (s₀ : Study) (n k : ℕ) (s : Study)
-      → outcome (ended (blocksFed (claimsFrom (onward s₀ d) s (adding rates) bytes k n) (adding rates) rest m))
-      ≡ recordsAdded rates s (recordsOfBlock bytes d k n ++ recordsOfBlocks rest (suc d) m)
+      → outcome (ended (blocksFed (claimsFrom (onward s₀ d) s add bytes k n) add rest m))
+      ≡ recordsAdded add s (recordsOfBlock bytes d k n ++ recordsOfBlocks rest (suc d) m)
   unfolding claimsFrom goesOn recordsOfBlock recordsAdded
   claims-added d bytes rest m behind s₀ zero k s =
-      ap (λ (e : ℕ). outcome (ended (blocksFed (onward s e) (adding rates) rest m))) (add-one d) ∙ behind s
+      ap (λ (e : ℕ). outcome (ended (blocksFed (onward s e) add rest m))) (add-one d) ∙ behind s
   claims-added d bytes rest m behind s₀ (suc n) k s =
-      let a = added s (blockClaim bytes k) rates in
+      let a = add s (blockClaim bytes k) in
       let r = onward s₀ d in
       by (eqb (a .refused) 0)
       (λ t.
-      outcome (ended (blocksFed (pick t (claimsFrom r (a .study) (adding rates) bytes (suc k) n) (stops r (a .study) (a .refused) (suc k))) (adding rates) rest m))
-      ≡ pick t (recordsAdded rates (a .study) (recordsOfBlock bytes d (suc k) n ++ recordsOfBlocks rest (suc d) m))
+      outcome (ended (blocksFed (pick t (claimsFrom r (a .study) add bytes (suc k) n) (stops r (a .study) (a .refused) (suc k))) add rest m))
+      ≡ pick t (recordsAdded add (a .study) (recordsOfBlock bytes d (suc k) n ++ recordsOfBlocks rest (suc d) m))
       (record { study = a .study; refused = a .refused; block = d; place = suc k }))
       (λ e. claims-added d bytes rest m behind s₀ n (suc k) (a .study)) (λ e. stopped d s₀ a (suc k) rest m e)
 
   block-begun : (d : ℕ) (s : Study) (bytes : List ℕ) → blockSound (suc d) bytes ≡ true
-      → blockFed (onward s (suc d)) (adding rates) bytes ≡ claimsFrom (onward s (suc d)) s (adding rates) bytes 0 (claimCount bytes)
+      → blockFed (onward s (suc d)) add bytes ≡ claimsFrom (onward s (suc d)) s add bytes 0 (claimCount bytes)
   unfolding blockFed begun
   block-begun d s bytes h = rw (h, ne-eqb (suc d) 0 (λ (q : suc d ≡ 0). omega arith))
 
@@ -96,7 +96,7 @@ module _ (rates : List ℕ) where
       let b = sound-first (suc d) bytes n h in
       let first = take 512 bytes in
       let rest = drop 512 bytes in
-      ap (λ (r : FileRun). outcome (ended (blocksFed r (adding rates) rest n))) (block-begun d s first (b .0))
+      ap (λ (r : FileRun). outcome (ended (blocksFed r add rest n))) (block-begun d s first (b .0))
       ∙ claims-added (suc d) first rest n (blocks-added n (suc d) rest (b .1)) s (claimCount first) 0 s
 
   -- the whole file: block 0, as opening its window comes out, and the blocks behind it
@@ -104,7 +104,7 @@ module _ (rates : List ℕ) where
   opening a t = pick t (onward (a .study) 1) (stops started (a .study) (a .refused) 0)
 
   first-block : (bytes : List ℕ) → SoundFile bytes
-      → blockFed started (adding rates) (take 512 bytes) ≡ opening (windowAnswer bytes) (eqb (windowAnswer bytes .refused) 0)
+      → blockFed started add (take 512 bytes) ≡ opening (windowAnswer bytes) (eqb (windowAnswer bytes .refused) 0)
   unfolding blockFed begun started claimsFrom goesOn
   first-block bytes f =
       rw (
@@ -118,27 +118,27 @@ module _ (rates : List ℕ) where
   unfolding partFed
   no-part r left e = rw (e, and-false (eqb (r .refused) 0))
 
-  by-block : (bytes : List ℕ) (r : FileRun) → SoundFile bytes → blockFed started (adding rates) (take 512 bytes) ≡ r
-      → fileRun rates bytes ≡ ended (blocksFed r (adding rates) (drop 512 bytes) (length (drop 512 bytes) / 512))
+  by-block : (bytes : List ℕ) (r : FileRun) → SoundFile bytes → blockFed started add (take 512 bytes) ≡ r
+      → fileRunWith add bytes ≡ ended (blocksFed r add (drop 512 bytes) (length (drop 512 bytes) / 512))
   unfolding fileRunWith fed started
   by-block bytes r f e =
       let l = length-take 512 bytes in
       let n = sound 0 (take 512 bytes) (f .window-so) .length-so in
       ap ended
-      (fed-block started (adding rates) bytes refl (omega arith)
-      ∙ ap (λ (x : FileRun). fed x (adding rates) (drop 512 bytes)) e
-      ∙ no-part (blocksFed r (adding rates) (drop 512 bytes) (length (drop 512 bytes) / 512)) (length (drop 512 bytes) % 512) (f .whole-so))
+      (fed-block started add bytes refl (omega arith)
+      ∙ ap (λ (x : FileRun). fed x add (drop 512 bytes)) e
+      ∙ no-part (blocksFed r add (drop 512 bytes) (length (drop 512 bytes) / 512)) (length (drop 512 bytes) % 512) (f .whole-so))
 
   pub run-added : (bytes : List ℕ) → SoundFile bytes → windowAnswer bytes .refused ≡ 0
-      → outcome (fileRun rates bytes) ≡ recordsAdded rates (windowAnswer bytes .study) (fileRecords bytes)
+      → outcome (fileRunWith add bytes) ≡ recordsAdded add (windowAnswer bytes .study) (fileRecords bytes)
   run-added bytes f h =
       let e = first-block bytes f ∙ ap (opening (windowAnswer bytes)) (eq-eqb (windowAnswer bytes .refused) 0 h) in
       ap outcome (by-block bytes (onward (windowAnswer bytes .study) 1) f e)
       ∙ blocks-added (length (drop 512 bytes) / 512) 0 (drop 512 bytes) (f .blocks-so) (windowAnswer bytes .study)
-      ∙ ap (recordsAdded rates (windowAnswer bytes .study)) (sym (file-records bytes f))
+      ∙ ap (recordsAdded add (windowAnswer bytes .study)) (sym (file-records bytes f))
 
   pub run-refused : (bytes : List ℕ) → SoundFile bytes → (windowAnswer bytes .refused ≡ 0 → ⊥)
-      → outcome (fileRun rates bytes) ≡ windowRefused (windowAnswer bytes)
+      → outcome (fileRunWith add bytes) ≡ windowRefused (windowAnswer bytes)
   unfolding started
   run-refused bytes f h =
       let t = ne-eqb (windowAnswer bytes .refused) 0 h in
@@ -151,12 +151,12 @@ abbrev pub asRun : CorrectedRun → FileRun
 asRun c = record { study = c .study; due = 0; refused = c .refused; block = c .block; place = c .place }
 
 -- the answer to a record, as its test comes out, and the records behind it
-abbrev onOrStop : List ℕ → PlacedClaim → List PlacedClaim → Answer → Bool → CorrectedRun
-onOrStop rates r rs a t =
-    pick t (recordsAdded rates (a .study) rs) (record { study = a .study; refused = a .refused; block = r .block; place = r .place })
+abbrev onOrStop : Adding → PlacedClaim → List PlacedClaim → Answer → Bool → CorrectedRun
+onOrStop add r rs a t =
+    pick t (recordsAdded add (a .study) rs) (record { study = a .study; refused = a .refused; block = r .block; place = r .place })
 
 -- one answer to two records of one claim
-module _ (rates : List ℕ) (a : Answer) (x y : PlacedClaim) (xs ys : List PlacedClaim) (same : x .claim ≡ y .claim) where
+module _ (add : Adding) (a : Answer) (x y : PlacedClaim) (xs ys : List PlacedClaim) (same : x .claim ≡ y .claim) where
   one-more : (c d : CorrectedRun) → SameStop (asRun c) xs d ys → SameStop (asRun c) (x ∷ xs) d (y ∷ ys)
   unfolding claimsOf blocksOf placesOf
   one-more c d h =
@@ -166,23 +166,23 @@ module _ (rates : List ℕ) (a : Answer) (x y : PlacedClaim) (xs ys : List Place
         stop = ⊎-elim (λ z. inl z) (λ z. inr (suc (z .0), omega (arith, z .1), omega (arith, z .2), z .3, z .4, z .5, z .6, z .7)) (h .stop);
       }
 
-  step-same : SameStop (asRun (recordsAdded rates (a .study) xs)) xs (recordsAdded rates (a .study) ys) ys
-      → (t : Bool) → SameStop (asRun (onOrStop rates x xs a t)) (x ∷ xs) (onOrStop rates y ys a t) (y ∷ ys)
+  step-same : SameStop (asRun (recordsAdded add (a .study) xs)) xs (recordsAdded add (a .study) ys) ys
+      → (t : Bool) → SameStop (asRun (onOrStop add x xs a t)) (x ∷ xs) (onOrStop add y ys a t) (y ∷ ys)
   unfolding claimsOf blocksOf placesOf
-  step-same h true = one-more (recordsAdded rates (a .study) xs) (recordsAdded rates (a .study) ys) h
+  step-same h true = one-more (recordsAdded add (a .study) xs) (recordsAdded add (a .study) ys) h
   step-same h false =
       record { study = refl; number = refl; stop = inr (0, omega arith, omega arith, refl, refl, refl, refl, same) }
 
-pub stops-same : (rates : List ℕ) (xs ys : List PlacedClaim) (s : Study) → claimsOf xs ≡ claimsOf ys
-    → SameStop (asRun (recordsAdded rates s xs)) xs (recordsAdded rates s ys) ys
+pub stops-same : (add : Adding) (xs ys : List PlacedClaim) (s : Study) → claimsOf xs ≡ claimsOf ys
+    → SameStop (asRun (recordsAdded add s xs)) xs (recordsAdded add s ys) ys
 unfolding recordsAdded claimsOf
-stops-same rates [] [] s e = record { study = refl; number = refl; stop = inl (refl, refl, refl) }
-stops-same rates [] (y ∷ ys) s e = absurd (omega (arith, ap length e))
-stops-same rates (x ∷ xs) [] s e = absurd (omega (arith, ap length e))
-stops-same rates (x ∷ xs) (y ∷ ys) s e =
+stops-same add [] [] s e = record { study = refl; number = refl; stop = inl (refl, refl, refl) }
+stops-same add [] (y ∷ ys) s e = absurd (omega (arith, ap length e))
+stops-same add (x ∷ xs) [] s e = absurd (omega (arith, ap length e))
+stops-same add (x ∷ xs) (y ∷ ys) s e =
     let p : x .claim ≡ y .claim = ap (λ (cs : List Claim). getD cs 0 noClaim) e in
     let q : claimsOf xs ≡ claimsOf ys = ap (λ (cs : List Claim). drop 1 cs) e in
-    let a = added s (x .claim) rates in
-    subst (λ (b : Answer). SameStop (asRun (onOrStop rates x xs a (eqb (a .refused) 0))) (x ∷ xs) (onOrStop rates y ys b (eqb (b .refused) 0)) (y ∷ ys))
-    (ap (λ (c : Claim). added s c rates) p)
-    (step-same rates a x y xs ys p (stops-same rates xs ys (a .study) q) (eqb (a .refused) 0))
+    let a = add s (x .claim) in
+    subst (λ (b : Answer). SameStop (asRun (onOrStop add x xs a (eqb (a .refused) 0))) (x ∷ xs) (onOrStop add y ys b (eqb (b .refused) 0)) (y ∷ ys))
+    (ap (add s) p)
+    (step-same add a x y xs ys p (stops-same add xs ys (a .study) q) (eqb (a .refused) 0))

@@ -11,6 +11,7 @@ use Rattle.study.specs.declared.Answer.{Answer}
 use Rattle.study.proofs.EitherTable.{same-adding}
 use Rattle.claim_file.specs.declared.FileRun.{FileRun}
 use Rattle.claim_file.specs.Run.{Adding, adding, fed, fileRunWith}
+use Rattle.claim_file.specs.Corrections.{correctedRunWith}
 use Rattle.claim_file.specs.PreparedRuns.{addingWith, SameRuns}
 
 plain-is : (rates : List ℕ) → addingWith Plain rates ≡ adding rates
@@ -26,4 +27,6 @@ same-runs rates bytes =
       prepared-fed = λ r. ap (λ (add : Adding). fed r add bytes) (prepared-is rates);
       plain-run = ap (λ (add : Adding). fileRunWith add bytes) (plain-is rates);
       prepared-run = ap (λ (add : Adding). fileRunWith add bytes) (prepared-is rates);
+      plain-corrected = ap (λ (add : Adding). correctedRunWith add bytes) (plain-is rates);
+      prepared-corrected = ap (λ (add : Adding). correctedRunWith add bytes) (prepared-is rates);
     }

@@ -12,9 +12,9 @@ use Rattle.study.specs.declared.Answer.{Answer}
 use Rattle.study.specs.Study.{opened}
 use Rattle.claim_file.specs.declared.CorrectedRun.{CorrectedRun}
 use Rattle.claim_file.specs.Bytes.{dateFrom}
-use Rattle.claim_file.specs.Run.{fileRun}
+use Rattle.claim_file.specs.Run.{Adding, fileRunWith}
 use Rattle.claim_file.specs.RoundTrip.{AreBytes}
-use Rattle.claim_file.specs.Corrections.{PlacedClaim, recordsOfBlocks, fileRecords, claimsOf, blocksOf, soundBlocks, allSound, lastOnes, recordsAdded, correctedRun, struckBlocks, struckFile, SameStop, SameWindow, StruckRuns}
+use Rattle.claim_file.specs.Corrections.{PlacedClaim, recordsOfBlocks, fileRecords, claimsOf, blocksOf, soundBlocks, allSound, lastOnes, recordsAdded, correctedRunWith, struckBlocks, struckFile, SameStop, SameWindow, StruckRuns}
 use Rattle.claim_file.proofs.Runs.{sound}
 use Rattle.claim_file.proofs.BlockZero.{first-date, records-behind, all-behind, SoundFile, sound-file, file-records}
 use Rattle.claim_file.proofs.RunRecords.{outcome, asRun, windowAnswer, windowRefused, run-added, run-refused, stops-same}
@@ -64,34 +64,34 @@ same-answer bytes other e =
     λ i l. sym (first-date other i (omega arith)) ∙ ap (λ (first : List ℕ). dateFrom first i) e ∙ first-date bytes i (omega arith) in
     λ i. opened (d 16 (omega arith) i) (d 20 (omega arith) i)
 
-module _ (rates bytes : List ℕ) (s : allSound bytes ≡ true) where
+module _ (add : Adding) (bytes : List ℕ) (s : allSound bytes ≡ true) where
   pub corrected-added : windowAnswer bytes .refused ≡ 0 → length (fileRecords bytes) ≤ 60000
-      → correctedRun rates bytes ≡ recordsAdded rates (windowAnswer bytes .study) (lastOnes (fileRecords bytes))
-  unfolding correctedRun
+      → correctedRunWith add bytes ≡ recordsAdded add (windowAnswer bytes .study) (lastOnes (fileRecords bytes))
+  unfolding correctedRunWith
   corrected-added h few = rw (s, eq-eqb (windowAnswer bytes .refused) 0 h, le-leb (length (fileRecords bytes)) 60000 few)
 
   pub corrected-refused : (windowAnswer bytes .refused ≡ 0 → ⊥)
-      → correctedRun rates bytes ≡ windowRefused (windowAnswer bytes)
-  unfolding correctedRun
+      → correctedRunWith add bytes ≡ windowRefused (windowAnswer bytes)
+  unfolding correctedRunWith
   corrected-refused h = rw (s, ne-eqb (windowAnswer bytes .refused) 0 h)
 
   same-run : (other : List ℕ) → length (fileRecords bytes) ≤ 60000 → SoundFile other → take 512 other ≡ take 512 bytes
       → claimsOf (fileRecords other) ≡ claimsOf (lastOnes (fileRecords bytes)) → windowAnswer bytes .refused ≡ 0
-      → SameStop (fileRun rates other) (fileRecords other) (correctedRun rates bytes) (lastOnes (fileRecords bytes))
+      → SameStop (fileRunWith add other) (fileRecords other) (correctedRunWith add bytes) (lastOnes (fileRecords bytes))
   same-run other few f e c h =
       let a = same-answer bytes other e in
-      let o : outcome (fileRun rates other) ≡ recordsAdded rates (windowAnswer bytes .study) (fileRecords other) =
-      run-added rates other f (ap (λ (x : Answer). x .refused) a ∙ h) ∙ ap (λ (x : Answer). recordsAdded rates (x .study) (fileRecords other)) a in
-      let t = stops-same rates (fileRecords other) (lastOnes (fileRecords bytes)) (windowAnswer bytes .study) c in
+      let o : outcome (fileRunWith add other) ≡ recordsAdded add (windowAnswer bytes .study) (fileRecords other) =
+      run-added add other f (ap (λ (x : Answer). x .refused) a ∙ h) ∙ ap (λ (x : Answer). recordsAdded add (x .study) (fileRecords other)) a in
+      let t = stops-same add (fileRecords other) (lastOnes (fileRecords bytes)) (windowAnswer bytes .study) c in
       let u =
       subst₂ (λ (x y : CorrectedRun). SameStop (asRun x) (fileRecords other) y (lastOnes (fileRecords bytes))) (sym o) (sym (corrected-added h few)) t in
       record { study = u .study; number = u .number; stop = u .stop }
 
   same-window : (other : List ℕ) → SoundFile other → take 512 other ≡ take 512 bytes → (windowAnswer bytes .refused ≡ 0 → ⊥)
-      → SameWindow (fileRun rates other) (correctedRun rates bytes)
+      → SameWindow (fileRunWith add other) (correctedRunWith add bytes)
   same-window other f e h =
       let a = same-answer bytes other e in
-      let p = run-refused rates other f (λ z. h (sym (ap (λ (x : Answer). x .refused) a) ∙ z)) in
+      let p = run-refused add other f (λ z. h (sym (ap (λ (x : Answer). x .refused) a) ∙ z)) in
       let q = corrected-refused h in
       let w = p ∙ ap windowRefused a ∙ sym q in
       record {
@@ -112,6 +112,6 @@ struck-runs =
       block-0 = λ bytes s. same-block-0 bytes (sound-file bytes s);
       claims = λ bytes small s. let f = sound-file bytes s in ap claimsOf (struck-records bytes small f) ∙ kept-back bytes small f .claims-so;
       blocks = λ bytes small s. let f = sound-file bytes s in ap blocksOf (struck-records bytes small f) ∙ kept-back bytes small f .blocks-so;
-      same = λ rates bytes other s few t e c h. same-run rates bytes s other few (sound-file other t) e c h;
-      same-window = λ rates bytes other s t e h. same-window rates bytes s other (sound-file other t) e h;
+      same = λ add bytes other s few t e c h. same-run add bytes s other few (sound-file other t) e c h;
+      same-window = λ add bytes other s t e h. same-window add bytes s other (sound-file other t) e h;
     }

@@ -13,14 +13,14 @@ use Rattle.claim_months.specs.declared.Claim.{Claim}
 use Rattle.claim_months.specs.Windows.{Parts, total, EveryPart}
 use Rattle.study.specs.declared.Study.{Study}
 use Rattle.study.specs.Sums.{plus}
-use Rattle.study.specs.Study.{fresh, firstDayAlone, opened, added}
+use Rattle.study.specs.Study.{fresh, firstDayAlone, opened}
 use Rattle.claim_file.specs.declared.WindowDates.{WindowDates}
 use Rattle.claim_file.specs.declared.FileRun.{FileRun}
 use Rattle.claim_file.specs.declared.CorrectedRun.{CorrectedRun}
 use Rattle.claim_file.specs.Bytes.{dateFrom}
 use Rattle.claim_file.specs.Block.{blockClaim, claimCount, blockSound, windowBytes, blockBytes}
 use Rattle.claim_file.specs.BlockAnswers.{noClaim}
-use Rattle.claim_file.specs.Run.{fileRun}
+use Rattle.claim_file.specs.Run.{Adding, adding, fileRunWith}
 use Rattle.claim_file.specs.Files.{Accepts, windowDays}
 use Rattle.claim_file.specs.RoundTrip.{AreBytes}
 
@@ -75,24 +75,27 @@ lastOnes [] = []
 lastOnes (r ∷ rs) = pick (hasNumber (r .claim .number) rs) (lastOnes rs) (r ∷ lastOnes rs)
 
 -- adding records to a study in order, up to the first refusal: its number, and the record's block and place
-unfoldable pub recordsAdded : List ℕ → Study → List PlacedClaim → CorrectedRun
-recordsAdded rates s [] = record { study = s; refused = 0; block = 0; place = 0 }
-recordsAdded rates s (r ∷ rs) =
-    let a = added s (r .claim) rates in
-    pick (eqb (a .refused) 0) (recordsAdded rates (a .study) rs)
+unfoldable pub recordsAdded : Adding → Study → List PlacedClaim → CorrectedRun
+recordsAdded add s [] = record { study = s; refused = 0; block = 0; place = 0 }
+recordsAdded add s (r ∷ rs) =
+    let a = add s (r .claim) in
+    pick (eqb (a .refused) 0) (recordsAdded add (a .study) rs)
     (record { study = a .study; refused = a .refused; block = r .block; place = r .place })
 
 -- The run with corrections: every block, then the window, then the number of records, before any claim. No study is opened yet where a block or the
--- window is refused
-unfoldable pub correctedRun : List ℕ → List ℕ → CorrectedRun
-correctedRun rates bytes =
+-- window is refused. With a way to add, and with rates
+unfoldable pub correctedRunWith : Adding → List ℕ → CorrectedRun
+correctedRunWith add bytes =
     let answer = opened (dateFrom bytes 16) (dateFrom bytes 20) in
     pick (allSound bytes)
     (pick (eqb (answer .refused) 0)
-    (pick (leb (length (fileRecords bytes)) most-records) (recordsAdded rates (answer .study) (lastOnes (fileRecords bytes)))
+    (pick (leb (length (fileRecords bytes)) most-records) (recordsAdded add (answer .study) (lastOnes (fileRecords bytes)))
     (record { study = answer .study; refused = refuse-too-many-records; block = 0; place = 0 }))
     (record { study = answer .study; refused = answer .refused; block = 0; place = 0 }))
     (record { study = fresh firstDayAlone; refused = refuse-block; block = soundBlocks 0 bytes (length bytes / block-bytes); place = 0 })
+
+abbrev pub correctedRun : List ℕ → List ℕ → CorrectedRun
+correctedRun rates bytes = correctedRunWith (adding rates) bytes
 
 -- The struck file: the same blocks without the superseded records
 unfoldable pub inBlock : ℕ → List PlacedClaim → List Claim
@@ -123,7 +126,7 @@ pub record SameWindow (plain : FileRun) (corrected : CorrectedRun) : Type 0 wher
   pub number : plain .refused ≡ corrected .refused
   pub stop : (plain .block ≡ 0) × (plain .place ≡ 0) × (corrected .block ≡ 0) × (corrected .place ≡ 0)
 
--- of a file with all blocks sound and at most 60,000 records, and a sound window or not. `proofs/Struck.antt` proves it
+-- of a file with all blocks sound and at most 60,000 records, and a sound window or not, with any way to add. `proofs/Struck.antt` proves it
 pub record StruckRuns : Type 0 where
   -- the struck file has sound blocks, the same block 0, and the kept records, each in its block
   pub sound : (bytes : List ℕ) → AreBytes bytes → allSound bytes ≡ true → allSound (struckFile bytes) ≡ true
@@ -131,13 +134,13 @@ pub record StruckRuns : Type 0 where
   pub claims : (bytes : List ℕ) → AreBytes bytes → allSound bytes ≡ true → claimsOf (fileRecords (struckFile bytes)) ≡ claimsOf (lastOnes (fileRecords bytes))
   pub blocks : (bytes : List ℕ) → AreBytes bytes → allSound bytes ≡ true → blocksOf (fileRecords (struckFile bytes)) ≡ blocksOf (lastOnes (fileRecords bytes))
   -- the plain run of any file with that block 0 and that sequence of records, the struck file among them
-  pub same : (rates bytes other : List ℕ) → allSound bytes ≡ true → length (fileRecords bytes) ≤ most-records → allSound other ≡ true
+  pub same : (add : Adding) (bytes other : List ℕ) → allSound bytes ≡ true → length (fileRecords bytes) ≤ most-records → allSound other ≡ true
       → take block-bytes other ≡ take block-bytes bytes → claimsOf (fileRecords other) ≡ claimsOf (lastOnes (fileRecords bytes))
       → opened (dateFrom bytes 16) (dateFrom bytes 20) .refused ≡ 0
-      → SameStop (fileRun rates other) (fileRecords other) (correctedRun rates bytes) (lastOnes (fileRecords bytes))
+      → SameStop (fileRunWith add other) (fileRecords other) (correctedRunWith add bytes) (lastOnes (fileRecords bytes))
   -- and where opening refuses the window
-  pub same-window : (rates bytes other : List ℕ) → allSound bytes ≡ true → allSound other ≡ true → take block-bytes other ≡ take block-bytes bytes
-      → (opened (dateFrom bytes 16) (dateFrom bytes 20) .refused ≡ 0 → ⊥) → SameWindow (fileRun rates other) (correctedRun rates bytes)
+  pub same-window : (add : Adding) (bytes other : List ℕ) → allSound bytes ≡ true → allSound other ≡ true → take block-bytes other ≡ take block-bytes bytes
+      → (opened (dateFrom bytes 16) (dateFrom bytes 20) .refused ≡ 0 → ⊥) → SameWindow (fileRunWith add other) (correctedRunWith add bytes)
 
 -- Files that differ only in their window, with sound windows that cut one another: all corrected runs end under the same number, block and place,
 -- with as many claims taken, and their sums add up in both sets, whatever the bytes behind block 0. `proofs/CorrectedFiles.antt` proves it

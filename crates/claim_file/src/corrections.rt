@@ -6,7 +6,8 @@ ghost use Prim.Native.Nat.{_/_, _≤_};
 ghost use denote.Ref.{now};
 ghost use lib.ListN.{length};
 ghost use Rattle.basics.specs.Limits.{block-bytes, most-records};
-ghost use Rattle.claim_file.specs.Corrections.{fileRecords, soundBlocks, allSound, lastOnes, recordsAdded, correctedRun};
+ghost use Rattle.claim_file.specs.Corrections.{fileRecords, soundBlocks, allSound, lastOnes, recordsAdded, correctedRunWith, correctedRun};
+ghost use Rattle.claim_file.specs.PreparedRuns.{addingWith};
 ghost use Rattle.claim_file.specs.Marks.{numbersOf, MarksSuperseded, unlessSuperseded, unsoundAt};
 use crate::CorrectedRun;
 use crate::FileRun;
@@ -20,6 +21,7 @@ use basics::limits::BLOCK_BYTES;
 use basics::limits::MOST_RECORDS;
 use basics::refusal;
 use claim_months::Claim;
+use rates::Kind;
 use study::Study;
 
 // How many of a file's whole blocks are sound, up to the first that isn't.
@@ -53,14 +55,15 @@ fn unsound_at(block: u32) -> CorrectedRun
 
 // One record of a block added to a study, unless a later one corrects it.
 fn add_record(
-    rates: &[u32],
+    kind: Kind,
+    table: &[u32],
     claim: Claim,
     block: u32,
     place: u8,
     superseded: bool,
     study: Study,
 ) -> CorrectedRun
-    ensures { λ r. ⌜ r ≡ recordsAdded (now (rates .entry)) study (unlessSuperseded superseded claim block place) ⌝ }
+    ensures { λ r. ⌜ r ≡ recordsAdded (addingWith kind (now (table .entry))) study (unlessSuperseded superseded claim block place) ⌝ }
 {
     if superseded {
         return CorrectedRun {
@@ -70,7 +73,7 @@ fn add_record(
             place: 0,
         };
     }
-    let answer = study.add(claim, rates);
+    let answer = study.add_with(kind, table, claim);
     let after = answer.study;
     if answer.refused == 0 {
         return CorrectedRun {
@@ -89,12 +92,12 @@ fn add_record(
 }
 
 // The records that are not marked, added to a study up to the first refusal.
-fn add_kept(rates: &[u32], file: &[u8], marks: &[u8], study: Study) -> CorrectedRun
+fn add_kept(kind: Kind, table: &[u32], file: &[u8], marks: &[u8], study: Study) -> CorrectedRun
     requires { ⌜ allSound (now file) ≡ true ⌝ }
     requires { ⌜ length (fileRecords (now file)) ≤ most-records ⌝ }
     requires { ⌜ length (now marks) ≡ 7500 ⌝ }
     requires { ⌜ MarksSuperseded (now marks) (numbersOf (fileRecords (now file))) ⌝ }
-    ensures { λ r. ⌜ r ≡ recordsAdded (now (rates .entry)) study (lastOnes (fileRecords (now (file .entry)))) ⌝ }
+    ensures { λ r. ⌜ r ≡ recordsAdded (addingWith kind (now (table .entry))) study (lastOnes (fileRecords (now (file .entry)))) ⌝ }
 {
     let mut run = CorrectedRun {
         study,
@@ -112,7 +115,8 @@ fn add_kept(rates: &[u32], file: &[u8], marks: &[u8], study: Study) -> Corrected
         while place < count {
             let so_far = run.study;
             run = add_record(
-                rates,
+                kind,
+                table,
                 claim_at(bytes, place),
                 block,
                 place + 1,
@@ -130,9 +134,9 @@ fn add_kept(rates: &[u32], file: &[u8], marks: &[u8], study: Study) -> Corrected
     run
 }
 
-// The run of a whole file with corrections.
-pub fn run_corrected(rates: &[u32], file: &[u8]) -> CorrectedRun
-    ensures { λ r. ⌜ r ≡ correctedRun (now (rates .entry)) (now (file .entry)) ⌝ }
+// The run of a whole file with corrections, with a table of either kind.
+pub fn run_corrected_with(kind: Kind, table: &[u32], file: &[u8]) -> CorrectedRun
+    ensures { λ r. ⌜ r ≡ correctedRunWith (addingWith kind (now (table .entry))) (now (file .entry)) ⌝ }
 {
     let sound = sound_blocks(file);
     if sound == 0 {
@@ -161,5 +165,12 @@ pub fn run_corrected(rates: &[u32], file: &[u8]) -> CorrectedRun
     }
     let mut marks = [0; 7500];
     mark_superseded(file, &mut marks);
-    add_kept(rates, file, &marks, study)
+    add_kept(kind, table, file, &marks, study)
+}
+
+// The same with plain rates.
+pub fn run_corrected(rates: &[u32], file: &[u8]) -> CorrectedRun
+    ensures { λ r. ⌜ r ≡ correctedRun (now (rates .entry)) (now (file .entry)) ⌝ }
+{
+    run_corrected_with(Kind::Plain, rates, file)
 }

@@ -12,7 +12,9 @@ use Rattle.claim_months.specs.declared.Claim.{Claim}
 use Rattle.claim_file.specs.declared.CorrectedRun.{CorrectedRun}
 use Rattle.claim_file.specs.Bytes.{byteAt}
 use Rattle.claim_file.specs.Block.{claimCount, blockSound}
+use Rattle.claim_file.specs.Run.{Adding}
 use Rattle.claim_file.specs.Corrections.{PlacedClaim, fileRecords, recordsAdded, hasNumber}
+use Rattle.claim_file.specs.PreparedRuns.{addingWith}
 use Rattle.claim_file.specs.Marks.{unlessSuperseded}
 use Rattle.claim_file.proofs.Runs.{Sound, sound}
 use Rattle.claim_file.proofs.Slots.{blockOf, block-byte}
@@ -21,18 +23,18 @@ use Rattle.claim_file.proofs.corrections.add_kept.Statement.{statement}
 use Rattle.claim_file.proofs.corrections.add_kept.Tie as tie
 
 abbrev Inv-loop : tie.InvT-loop
-Inv-loop rates file marks run₀ index₀ block at bytes count place₀ run index place =
-    (place ≤ count) × Left rates (fileRecords file) run₀ run index (blockLeft file bytes block 0 count) (blockLeft file bytes block place count)
+Inv-loop kind table file marks run₀ index₀ block at bytes count place₀ run index place =
+    (place ≤ count) × Left (addingWith kind table) (fileRecords file) run₀ run index (blockLeft file bytes block 0 count) (blockLeft file bytes block place count)
 
 abbrev μ-loop : tie.MeasureT-loop
-μ-loop rates file marks run₀ index₀ block at bytes count place₀ run index place = count - place
+μ-loop kind table file marks run₀ index₀ block at bytes count place₀ run index place = count - place
 
 abbrev Inv-file : tie.InvT-file
-Inv-file rates file marks run₀ index₀ block₀ run index block =
-    (block ≤ 65536) × Left rates (fileRecords file) run₀ run index (fileRecords file) (laterRecords file block)
+Inv-file kind table file marks run₀ index₀ block₀ run index block =
+    (block ≤ 65536) × Left (addingWith kind table) (fileRecords file) run₀ run index (fileRecords file) (laterRecords file block)
 
 abbrev μ-file : tie.MeasureT-file
-μ-file rates file marks run₀ index₀ block₀ run index block = length file / 512 - block
+μ-file kind table file marks run₀ index₀ block₀ run index block = length file / 512 - block
 
 file-holds : tie.Need-file-holds Inv-loop μ-loop Inv-file μ-file
 file-holds c =
@@ -44,6 +46,9 @@ file-holds c =
 module _ (f : tie.In-file Inv-loop μ-loop Inv-file μ-file) where
   abbrev start : tie.Start Inv-loop μ-loop Inv-file μ-file
   start = f .before .before .before .before .before
+
+  abbrev add : Adding
+  add = addingWith (start .args .kind) (start .args .table .now)
 
   abbrev file : List ℕ
   file = start .args .file .now
@@ -96,7 +101,7 @@ module _ (r : tie.In-loop Inv-loop μ-loop Inv-file μ-file) where
   abbrev behind : List PlacedClaim
   behind = blockLeft (file inside) (bytes inside) (block inside) (place + 1) (count inside)
 
-  left-so : Left (start inside .args .rates .now) (fileRecords (file inside)) (inside .before .file .run) (r .before .loop .run) (r .before .loop .index)
+  left-so : Left (add inside) (fileRecords (file inside)) (inside .before .file .run) (r .before .loop .run) (r .before .loop .index)
       (blockLeft (file inside) (bytes inside) (block inside) 0 (count inside)) (this ∷ behind)
   left-so = left-rest _ _ _ _ _ _ _ _ (next-place (file inside) (bytes inside) (block inside) place (count inside) (r .loop-test .taken)) (r .before .loop .inv .1)
 
@@ -126,7 +131,7 @@ module _ (a : tie.After-add-record Inv-loop μ-loop Inv-file μ-file) where
 
   abbrev after-adding : Claim → CorrectedRun
   after-adding claim =
-      recordsAdded (start (inside turn) .args .rates .now) (turn .before .loop .run .study)
+      recordsAdded (add (inside turn)) (turn .before .loop .run .study)
       (unlessSuperseded (a .before .is-marked .result) claim (block (inside turn)) (place turn + 1))
 
   added-so : a .add-record .result ≡ after-adding (this turn .claim)
