@@ -1,7 +1,8 @@
 /* The engine's calls for C, C++ and Rust, by task:
 
      the study of a whole claim file     ltd_file_study; where later records correct earlier ones, ltd_corrected_study;
-                                         many files with one table, ltd_prepare once, then ltd_prepared_file_study
+                                         many files with one table, ltd_prepare once, then ltd_prepared_file_study and
+                                         ltd_prepared_corrected_study
      a study claim by claim              ltd_open, ltd_add; a claim taken back, ltd_withdraw; studies of one window joined, ltd_join;
                                          with a prepared table, ltd_prepared_add and ltd_prepared_withdraw
      one claim's months                  ltd_listing
@@ -140,6 +141,11 @@ uint8_t ltd_prepared_file_study(const uint8_t *file, size_t file_len, const uint
    study of that window, if the file has more than 60,000, corrected ones included. A claim's refusal names its place in this file. 255 if
    out is shorter than 86. */
 uint8_t ltd_corrected_study(const uint8_t *file, size_t file_len, const uint32_t *rates, size_t rates_len, int64_t *out, size_t out_len);
+
+/* The same with a prepared table: as ltd_corrected_study with the rates that were prepared, and faster. Refusal 6 says that the table is not
+   a prepared one. 255 if out is shorter than 86. */
+uint8_t ltd_prepared_corrected_study(const uint8_t *file, size_t file_len, const uint32_t *table, size_t table_len, int64_t *out,
+                                     size_t out_len);
 
 /* z, m and T of a group into out (3 numbers), T without any ceiling. Answers 0, or 12. 255 if out is shorter than 3. */
 uint8_t ltd_factor(uint8_t group, uint32_t terminations, int64_t expected, uint64_t *out, size_t out_len);

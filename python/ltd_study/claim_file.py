@@ -160,12 +160,11 @@ def file_study(claims: Union[ClaimFile, bytes, str, Path], rates: Rates, correct
     """
     file = claims if isinstance(claims, ClaimFile) else ClaimFile(claims) if isinstance(claims, bytes) else ClaimFile.read(claims)
     out = (ctypes.c_int64 * _RUN_LENGTH)()
-    call, table = calls().ltd_prepared_file_study, rates.prepared
+    prepared_call, plain_call = calls().ltd_prepared_file_study, calls().ltd_file_study
     if corrected:
-        call, table = calls().ltd_corrected_study, rates
-    elif table is None:
-        # No table by its length: the run with the plain rates says at which claim.
-        call, table = calls().ltd_file_study, rates
+        prepared_call, plain_call = calls().ltd_prepared_corrected_study, calls().ltd_corrected_study
+    # No table by its length: the run with the plain rates says at which claim.
+    call, table = (plain_call, rates) if rates.prepared is None else (prepared_call, rates.prepared)
     call(file.data, len(file.data), *table.lent, out, _RUN_LENGTH)
     number, block, place = out[:3]
     study = Study(out[3:])

@@ -8,7 +8,7 @@ from fractions import Fraction
 from hashlib import sha256
 from typing import Dict, List
 
-from ltd_study import GROUPS, Claim, GroupSums, RefusedFile, Study, file_study
+from ltd_study import GROUPS, Claim, GroupSums, Rates, RefusedFile, Study, file_study
 from ltd_study.desk import figures
 from ltd_study.desk.study_json import SavedStudy, of_json
 from ltd_study.study import SUM_NAMES
@@ -202,6 +202,13 @@ class Studies(DeskTest):
         self.assertIn("refused 11 (block) at block 17; './ltd check --corrected' names every claim", ended.err)
         self.packed(self.claims, ("2012-01-01", "2011-01-01"))
         self.assertIn("refused 1 (window) at block 0;", self.ltd("study", "x.claims", "r.bin", status=1).err)
+
+    def test_rates_of_which_no_table_is_prepared(self) -> None:
+        twice = claim_file([self.claims[0]] * 2)
+        for corrected, place in ((False, 1), (True, 2)):
+            with self.assertRaises(RefusedFile) as caught:
+                file_study(twice, Rates([1] * 957), corrected)
+            self.assertEqual((caught.exception.number, caught.exception.block, caught.exception.place), (6, 1, place))
 
     def test_too_many_records_to_correct(self) -> None:
         self.packed([self.claims[0]] * 60_001)

@@ -67,7 +67,6 @@ mod c {
             table_len: usize,
         ) -> u8;
 
-        #[cfg(feature = "first_prepared_corrected")]
         pub fn ltd_prepared_corrected_study(
             file: *const u8,
             file_len: usize,
@@ -229,7 +228,6 @@ pub fn prepared_withdraw(study: &mut [i64], claim: &[u8], table: &[u32]) -> u8 {
 }
 
 /// As `corrected_study`, with a prepared table.
-#[cfg(feature = "first_prepared_corrected")]
 pub fn prepared_corrected_study(file: &[u8], table: &[u32], out: &mut [i64]) -> u8 {
     unsafe { c::ltd_prepared_corrected_study(head(file), file.len(), head(table), table.len(), head_mut(out), out.len()) }
 }

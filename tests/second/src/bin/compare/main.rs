@@ -2,8 +2,8 @@
 //! sound and damaged. A mismatch prints the whole input and ends its test; the last line counts the tests.
 //!
 //! Run: LTD_LIB_DIR=(the directory of libc_file.a and libc_abi.a) cargo run --release --features first --bin compare [-- TEXT]
-//! With TEXT only the tests run whose name has it. The features first_prepared_corrected and first_durations add the tests of the
-//! calls that the libraries must then have: runs with corrections and a prepared table, and sums by duration.
+//! With TEXT only the tests run whose name has it. The feature first_durations adds the tests of the calls that the libraries must then
+//! have: sums by duration.
 
 mod benefits;
 mod blocks;
@@ -24,7 +24,6 @@ mod one_input;
 mod open_and_add;
 mod pools;
 mod prepared;
-#[cfg(feature = "first_prepared_corrected")]
 mod prepared_corrections;
 mod prepared_studies;
 mod reserve_limit;
@@ -82,7 +81,6 @@ const SUBJECTS: &[&[Test]] = &[
     corrections::TESTS,
     version::TESTS,
     prepared_studies::TESTS,
-    #[cfg(feature = "first_prepared_corrected")]
     prepared_corrections::TESTS,
     #[cfg(feature = "first_durations")]
     durations::TESTS,
