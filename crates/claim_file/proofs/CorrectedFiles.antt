@@ -4,7 +4,7 @@
 use Prim.Native.Nat.{ℕ, suc, _+_, _/_, _%_, _≤_}
 use mathlib.Core.Path.{_≡_, refl, sym, ap, subst⁻¹, _∙_}
 use mathlib.Core.Bool.{Bool, true, _&&_}
-use mathlib.Core.List.{List, [], _∷_, _++_}
+use mathlib.Core.List.{List, [], _∷_, _++_, append-nil}
 use native.Mathlib.Omega.{arith}
 use lib.ListN.{length}
 use lib.Seq.{take-at}
@@ -26,7 +26,8 @@ use Rattle.study.specs.declared.Answer.{Answer}
 use Rattle.study.specs.Study.{sumOver, studyOf, fresh, firstDayAlone, opened}
 use Rattle.study.proofs.SumOver.{All}
 use Rattle.study.proofs.Capacity.{Accepted}
-use Rattle.study.proofs.Built.{numberAfter, added-after, zero-accepted, fresh-built}
+use Rattle.study.proofs.Built.{numberAfter, added-after, zero-accepted, fresh-built, study-same}
+use Rattle.study.proofs.Members.{front as to-front}
 use Rattle.study.proofs.Totals.{same-totals, built-total}
 use Rattle.study.proofs.Demand3.{opens-window}
 use Rattle.claim_file.specs.declared.WindowDates.{WindowDates}
@@ -36,7 +37,7 @@ use Rattle.claim_file.specs.Block.{blockSound, windowBytes}
 use Rattle.claim_file.specs.Run.{adding}
 use Rattle.claim_file.specs.Files.{Accepts, windowDays}
 use Rattle.claim_file.specs.RoundTrip.{DateFits}
-use Rattle.claim_file.specs.Corrections.{PlacedClaim, recordsOfBlocks, soundBlocks, lastOnes, recordsAdded, correctedRunWith, correctedOf, SameCorrectedEnd, CorrectedDemand3}
+use Rattle.claim_file.specs.Corrections.{PlacedClaim, recordsOfBlocks, claimsOf, keptClaims, HasKeptStudy, soundBlocks, lastOnes, recordsAdded, correctedRunWith, correctedOf, SameCorrectedEnd, CorrectedDemand3}
 use Rattle.claim_file.proofs.BlockTrips.{window-sound, window-first, window-last}
 use Rattle.claim_file.proofs.Runs.{sound}
 use Rattle.claim_file.proofs.BlockZero.{first-date, sound-behind, records-behind, all-behind}
@@ -83,6 +84,21 @@ module _ (rates : List ℕ) where
       ap (λ (x : Answer). step (x .study) (x .refused) (eqb (x .refused) 0)) (added-after w rates ok cs c a)
       ∙ by (eqb m 0) (λ t. step (studyOf w rates (pick t (c ∷ cs) cs)) m t ≡ withStudy w (pick t (adds (c ∷ cs) rs) (course cs m (r .block) (r .place))))
       (λ e. adds-so w ok rs (c ∷ cs) (zero-accepted rates cs c (eqb-true m 0 e), a)) (λ e. refl)
+
+  -- records that are all taken have the study of their claims and those before
+  adds-study : (w : Window) (rs : List PlacedClaim) (cs : List Claim) → adds cs rs .refused ≡ 0
+      → studyOf w rates (adds cs rs .claims) ≡ studyOf w rates (claimsOf rs ++ cs)
+  unfolding adds claimsOf
+  adds-study w [] cs h = refl
+  adds-study w (r ∷ rs) cs h =
+      let c = r .claim in
+      let m = numberAfter rates cs c in
+      let stop = course cs m (r .block) (r .place) in
+      by (eqb m 0)
+      (λ t. pick t (adds (c ∷ cs) rs) stop .refused ≡ 0
+      → studyOf w rates (pick t (adds (c ∷ cs) rs) stop .claims) ≡ studyOf w rates (c ∷ (claimsOf rs ++ cs)))
+      (λ e z. adds-study w rs (c ∷ cs) z ∙ study-same w rates (claimsOf rs ++ (c ∷ cs)) (c ∷ (claimsOf rs ++ cs)) (to-front (claimsOf rs) c cs))
+      (λ e z. absurd (omega tests)) h
 
 -- a date of the calendar fits the file's widths
 date-fits : (d : Date) → isDate d ≡ true → DateFits d
@@ -200,6 +216,27 @@ module _ (rates rest : List ℕ) where
         (λ u. follows-with w tooMany))
         (λ e. not-opened w refuse-block (suc soundCount)))
 
+    -- a run that is not refused has the study of the claims kept
+    kept-study : HasKeptStudy rates rest w
+    unfolding keptClaims
+    kept-study =
+        let run = recordsAdded (adding rates) (studyOf (windowDays w) rates []) (lastOnes records) in
+        let many-run = withStudy rates (windowDays w) tooMany in
+        let bad-run : CorrectedRun = record { study = fresh firstDayAlone; refused = refuse-block; block = suc soundCount; place = 0 } in
+        let few = leb (length records) 60000 in
+        let goal = studyOf (windowDays w) rates (claimsOf (lastOnes records)) in
+        let added-so = adds-so rates (windowDays w) sound-days (lastOnes records) [] tt in
+        subst⁻¹ (λ (r : CorrectedRun). r .refused ≡ 0 → r .study ≡ goal) run-is
+        (by allBehind (λ t. pick t (pick few run many-run) bad-run .refused ≡ 0 → pick t (pick few run many-run) bad-run .study ≡ goal)
+        (λ e.
+        by few (λ t. pick t run many-run .refused ≡ 0 → pick t run many-run .study ≡ goal)
+        (λ u z.
+        ap (λ (r : CorrectedRun). r .study) added-so
+        ∙ adds-study rates (windowDays w) (lastOnes records) [] (sym (ap (λ (r : CorrectedRun). r .refused) added-so) ∙ z)
+        ∙ ap (studyOf (windowDays w) rates) (append-nil (claimsOf (lastOnes records))))
+        (λ u z. absurd (omega tests)))
+        (λ e z. absurd (omega tests)))
+
 same-end : (rates rest : List ℕ) (v w : WindowDates) → Accepts v → Accepts w → SameCorrectedEnd (correctedOf rates rest v) (correctedOf rates rest w)
 same-end rates rest v w k ok =
     let f = run-follows rates rest v k in
@@ -224,4 +261,6 @@ corrected-demand-3 rates rest whole part parts ok ps =
     record {
       same-end = every-map _ _ (λ w k. same-end rates rest w whole k ok) part parts o;
       sums = same-totals _ _ _ _ part parts (every-map _ _ (λ w k. sym (run-follows rates rest w k .sums-so)) part parts o) (sym (g .sums-so)) t;
+      whole-study = kept-study rates rest whole ok;
+      part-studies = every-map _ _ (λ w k. kept-study rates rest w k) part parts o;
     }

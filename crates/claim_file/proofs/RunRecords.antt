@@ -12,7 +12,7 @@ use lib.ListN.{length, take, drop, getD, length-take}
 use lib.Dec.{eqb}
 use borrow.Author.Tests.{eq-eqb, ne-eqb, eqb-false}
 use Rattle.basics.specs.Pick.{pick}
-use Rattle.basics.proofs.Tests.{by}
+use Rattle.basics.proofs.Tests.{tests, by}
 use Rattle.claim_months.specs.declared.Claim.{Claim}
 use Rattle.study.specs.declared.Study.{Study}
 use Rattle.study.specs.declared.Answer.{Answer}
@@ -163,20 +163,28 @@ module _ (add : Adding) (a : Answer) (x y : PlacedClaim) (xs ys : List PlacedCla
       record {
         study = h .study;
         number = h .number;
-        stop = ⊎-elim (λ z. inl z) (λ z. inr (suc (z .0), omega (arith, z .1), omega (arith, z .2), z .3, z .4, z .5, z .6, z .7)) (h .stop);
+        stop = ⊎-elim (λ z. inl z)
+            (λ z.
+            inr (⊎-elim (λ u. inl u)
+            (λ u. inr (u .0, suc (u .1), omega (arith, u .2), omega (arith, u .3), u .4, u .5, u .6, u .7, u .8)) z))
+            (h .stop);
       }
 
   step-same : SameStop (asRun (recordsAdded add (a .study) xs)) xs (recordsAdded add (a .study) ys) ys
-      → (t : Bool) → SameStop (asRun (onOrStop add x xs a t)) (x ∷ xs) (onOrStop add y ys a t) (y ∷ ys)
+      → (t : Bool) → eqb (a .refused) 0 ≡ t → SameStop (asRun (onOrStop add x xs a t)) (x ∷ xs) (onOrStop add y ys a t) (y ∷ ys)
   unfolding claimsOf blocksOf placesOf
-  step-same h true = one-more (recordsAdded add (a .study) xs) (recordsAdded add (a .study) ys) h
-  step-same h false =
-      record { study = refl; number = refl; stop = inr (0, omega arith, omega arith, refl, refl, refl, refl, same) }
+  step-same h true q = one-more (recordsAdded add (a .study) xs) (recordsAdded add (a .study) ys) h
+  step-same h false q =
+      record {
+        study = refl;
+        number = refl;
+        stop = inr (inr (λ z. absurd (omega tests), 0, omega arith, omega arith, refl, refl, refl, refl, same));
+      }
 
 pub stops-same : (add : Adding) (xs ys : List PlacedClaim) (s : Study) → claimsOf xs ≡ claimsOf ys
     → SameStop (asRun (recordsAdded add s xs)) xs (recordsAdded add s ys) ys
 unfolding recordsAdded claimsOf
-stops-same add [] [] s e = record { study = refl; number = refl; stop = inl (refl, refl, refl) }
+stops-same add [] [] s e = record { study = refl; number = refl; stop = inl (refl, refl, refl, refl, refl) }
 stops-same add [] (y ∷ ys) s e = absurd (omega (arith, ap length e))
 stops-same add (x ∷ xs) [] s e = absurd (omega (arith, ap length e))
 stops-same add (x ∷ xs) (y ∷ ys) s e =
@@ -185,4 +193,4 @@ stops-same add (x ∷ xs) (y ∷ ys) s e =
     let a = add s (x .claim) in
     subst (λ (b : Answer). SameStop (asRun (onOrStop add x xs a (eqb (a .refused) 0))) (x ∷ xs) (onOrStop add y ys b (eqb (b .refused) 0)) (y ∷ ys))
     (ap (add s) p)
-    (step-same add a x y xs ys p (stops-same add xs ys (a .study) q) (eqb (a .refused) 0))
+    (step-same add a x y xs ys p (stops-same add xs ys (a .study) q) (eqb (a .refused) 0) refl)

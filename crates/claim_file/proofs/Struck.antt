@@ -4,17 +4,20 @@ use Prim.Native.Nat.{ℕ, _+_, _/_, _%_, _≤_}
 use mathlib.Core.Path.{_≡_, sym, ap, subst, subst₂, _∙_}
 use mathlib.Core.Bool.{true}
 use mathlib.Core.List.{List}
+use mathlib.Core.Logic.{inl, inr}
 use native.Mathlib.Omega.{arith}
 use lib.ListN.{length, take, drop}
 use lib.Seq.{take-at}
-use borrow.Author.Tests.{eq-eqb, ne-eqb, le-leb}
+use lib.Dec.{eqb}
+use borrow.Author.Tests.{eqb-true, eq-eqb, ne-eqb, le-leb}
+use Rattle.basics.proofs.Tests.{tests, by}
 use Rattle.study.specs.declared.Answer.{Answer}
 use Rattle.study.specs.Study.{opened}
 use Rattle.claim_file.specs.declared.CorrectedRun.{CorrectedRun}
 use Rattle.claim_file.specs.Bytes.{dateFrom}
 use Rattle.claim_file.specs.Run.{Adding, fileRunWith}
 use Rattle.claim_file.specs.RoundTrip.{AreBytes}
-use Rattle.claim_file.specs.Corrections.{PlacedClaim, recordsOfBlocks, fileRecords, claimsOf, blocksOf, soundBlocks, allSound, lastOnes, recordsAdded, correctedRunWith, struckBlocks, struckFile, SameStop, SameWindow, StruckRuns}
+use Rattle.claim_file.specs.Corrections.{PlacedClaim, recordsOfBlocks, fileRecords, claimsOf, blocksOf, soundBlocks, allSound, lastOnes, recordsAdded, correctedRunWith, struckBlocks, struckFile, SameStop, StruckRuns}
 use Rattle.claim_file.proofs.Runs.{sound}
 use Rattle.claim_file.proofs.BlockZero.{first-date, records-behind, all-behind, SoundFile, sound-file, file-records}
 use Rattle.claim_file.proofs.RunRecords.{outcome, asRun, windowAnswer, windowRefused, run-added, run-refused, stops-same}
@@ -87,31 +90,46 @@ module _ (add : Adding) (bytes : List ℕ) (s : allSound bytes ≡ true) where
       subst₂ (λ (x y : CorrectedRun). SameStop (asRun x) (fileRecords other) y (lastOnes (fileRecords bytes))) (sym o) (sym (corrected-added h few)) t in
       record { study = u .study; number = u .number; stop = u .stop }
 
-  same-window : (other : List ℕ) → SoundFile other → take 512 other ≡ take 512 bytes → (windowAnswer bytes .refused ≡ 0 → ⊥)
-      → SameWindow (fileRunWith add other) (correctedRunWith add bytes)
-  same-window other f e h =
+  window-stop : (other : List ℕ) → SoundFile other → take 512 other ≡ take 512 bytes → (windowAnswer bytes .refused ≡ 0 → ⊥)
+      → SameStop (fileRunWith add other) (fileRecords other) (correctedRunWith add bytes) (lastOnes (fileRecords bytes))
+  window-stop other f e h =
       let a = same-answer bytes other e in
-      let p = run-refused add other f (λ z. h (sym (ap (λ (x : Answer). x .refused) a) ∙ z)) in
+      let p = run-refused add other f (λ z. h (sym (ap (λ (x : Answer). x .refused) a) ∙ z)) ∙ ap windowRefused a in
       let q = corrected-refused h in
-      let w = p ∙ ap windowRefused a ∙ sym q in
+      let w = p ∙ sym q in
       record {
         study = ap (λ (x : CorrectedRun). x .study) w;
         number = ap (λ (x : CorrectedRun). x .refused) w;
-        stop = (
+        stop = inr (inl (
+          λ z. h (sym (ap (λ (x : CorrectedRun). x .refused) p) ∙ z),
           ap (λ (x : CorrectedRun). x .block) p,
           ap (λ (x : CorrectedRun). x .place) p,
           ap (λ (x : CorrectedRun). x .block) q,
           ap (λ (x : CorrectedRun). x .place) q,
-        );
+        ));
       }
+
+  same-stop : (other : List ℕ) → length (fileRecords bytes) ≤ 60000 → SoundFile other → take 512 other ≡ take 512 bytes
+      → claimsOf (fileRecords other) ≡ claimsOf (lastOnes (fileRecords bytes))
+      → SameStop (fileRunWith add other) (fileRecords other) (correctedRunWith add bytes) (lastOnes (fileRecords bytes))
+  same-stop other few f e c =
+      by (eqb (windowAnswer bytes .refused) 0)
+      (λ _. SameStop (fileRunWith add other) (fileRecords other) (correctedRunWith add bytes) (lastOnes (fileRecords bytes)))
+      (λ q. same-run other few f e c (eqb-true (windowAnswer bytes .refused) 0 q)) (λ q. window-stop other f e (λ z. absurd (omega tests)))
+
+struck-claims : (bytes : List ℕ) → AreBytes bytes → SoundFile bytes → claimsOf (fileRecords (struckFile bytes)) ≡ claimsOf (lastOnes (fileRecords bytes))
+struck-claims bytes small f = ap claimsOf (struck-records bytes small f) ∙ kept-back bytes small f .claims-so
 
 pub struck-runs : StruckRuns
 struck-runs =
     record {
       sound = λ bytes small s. struck-sound bytes small (sound-file bytes s);
       block-0 = λ bytes s. same-block-0 bytes (sound-file bytes s);
-      claims = λ bytes small s. let f = sound-file bytes s in ap claimsOf (struck-records bytes small f) ∙ kept-back bytes small f .claims-so;
+      claims = λ bytes small s. struck-claims bytes small (sound-file bytes s);
       blocks = λ bytes small s. let f = sound-file bytes s in ap blocksOf (struck-records bytes small f) ∙ kept-back bytes small f .blocks-so;
-      same = λ add bytes other s few t e c h. same-run add bytes s other few (sound-file other t) e c h;
-      same-window = λ add bytes other s t e h. same-window add bytes s other (sound-file other t) e h;
+      same = λ add bytes other s few t e c. same-stop add bytes s other few (sound-file other t) e c;
+      struck = λ add bytes small s few.
+          let f = sound-file bytes s in
+          same-stop add bytes s (struckFile bytes) few (sound-file (struckFile bytes) (struck-sound bytes small f)) (same-block-0 bytes f)
+          (struck-claims bytes small f);
     }

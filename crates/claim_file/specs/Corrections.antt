@@ -13,7 +13,7 @@ use Rattle.claim_months.specs.declared.Claim.{Claim}
 use Rattle.claim_months.specs.Windows.{Parts, total, EveryPart}
 use Rattle.study.specs.declared.Study.{Study}
 use Rattle.study.specs.Sums.{plus}
-use Rattle.study.specs.Study.{fresh, firstDayAlone, opened}
+use Rattle.study.specs.Study.{studyOf, fresh, firstDayAlone, opened}
 use Rattle.claim_file.specs.declared.WindowDates.{WindowDates}
 use Rattle.claim_file.specs.declared.FileRun.{FileRun}
 use Rattle.claim_file.specs.declared.CorrectedRun.{CorrectedRun}
@@ -109,22 +109,29 @@ struckBlocks kept b (suc n) = blockBytes b (inBlock b kept) ++ struckBlocks kept
 unfoldable pub struckFile : List ℕ → List ℕ
 struckFile bytes = take block-bytes bytes ++ struckBlocks (lastOnes (fileRecords bytes)) 1 (length (drop block-bytes bytes) / block-bytes)
 
--- A plain run of a file and a run with corrections stop at the same record of their sequences of records: the same study and number, and where
--- they refuse, the place of that record in each file
+-- Where a plain run of a file and a run with corrections stop. Nowhere: number, block and place of both are 0
+abbrev pub NoStop : FileRun → CorrectedRun → Type 0
+NoStop plain corrected =
+    (plain .refused ≡ 0) × (plain .block ≡ 0) × (plain .place ≡ 0) × (corrected .block ≡ 0) × (corrected .place ≡ 0)
+
+-- at the window: both are refused at block 0, before any claim
+abbrev pub WindowStop : FileRun → CorrectedRun → Type 0
+WindowStop plain corrected =
+    (plain .refused ≡ 0 → ⊥) × (plain .block ≡ 0) × (plain .place ≡ 0) × (corrected .block ≡ 0) × (corrected .place ≡ 0)
+
+-- at one record of their sequences of records: both are refused, each at the place that it has in its file
+abbrev pub RecordStop : FileRun → List PlacedClaim → CorrectedRun → List PlacedClaim → Type 0
+RecordStop plain records corrected kept =
+    (plain .refused ≡ 0 → ⊥) × (i : ℕ) × (i < length kept) × (i < length records)
+    × (plain .block ≡ getD (blocksOf records) i 0) × (corrected .block ≡ getD (blocksOf kept) i 0)
+    × (plain .place ≡ getD (placesOf records) i 0) × (corrected .place ≡ getD (placesOf kept) i 0)
+    × (getD (claimsOf records) i noClaim ≡ getD (claimsOf kept) i noClaim)
+
+-- Both stop alike, with the same study and number
 pub record SameStop (plain : FileRun) (records : List PlacedClaim) (corrected : CorrectedRun) (kept : List PlacedClaim) : Type 0 where
   pub study : plain .study ≡ corrected .study
   pub number : plain .refused ≡ corrected .refused
-  pub stop : ((plain .refused ≡ 0) × (corrected .block ≡ 0) × (corrected .place ≡ 0))
-      ⊎ ((i : ℕ) × (i < length kept) × (i < length records)
-      × (plain .block ≡ getD (blocksOf records) i 0) × (corrected .block ≡ getD (blocksOf kept) i 0)
-      × (plain .place ≡ getD (placesOf records) i 0) × (corrected .place ≡ getD (placesOf kept) i 0)
-      × (getD (claimsOf records) i noClaim ≡ getD (claimsOf kept) i noClaim))
-
--- or both refuse the window, at block 0 and before any claim
-pub record SameWindow (plain : FileRun) (corrected : CorrectedRun) : Type 0 where
-  pub study : plain .study ≡ corrected .study
-  pub number : plain .refused ≡ corrected .refused
-  pub stop : (plain .block ≡ 0) × (plain .place ≡ 0) × (corrected .block ≡ 0) × (corrected .place ≡ 0)
+  pub stop : NoStop plain corrected ⊎ (WindowStop plain corrected ⊎ RecordStop plain records corrected kept)
 
 -- of a file with all blocks sound and at most 60,000 records, and a sound window or not, with any way to add. `proofs/Struck.antt` proves it
 pub record StruckRuns : Type 0 where
@@ -133,17 +140,17 @@ pub record StruckRuns : Type 0 where
   pub block-0 : (bytes : List ℕ) → allSound bytes ≡ true → take block-bytes (struckFile bytes) ≡ take block-bytes bytes
   pub claims : (bytes : List ℕ) → AreBytes bytes → allSound bytes ≡ true → claimsOf (fileRecords (struckFile bytes)) ≡ claimsOf (lastOnes (fileRecords bytes))
   pub blocks : (bytes : List ℕ) → AreBytes bytes → allSound bytes ≡ true → blocksOf (fileRecords (struckFile bytes)) ≡ blocksOf (lastOnes (fileRecords bytes))
-  -- the plain run of any file with that block 0 and that sequence of records, the struck file among them
+  -- the plain run of any file with that block 0 and that sequence of records
   pub same : (add : Adding) (bytes other : List ℕ) → allSound bytes ≡ true → length (fileRecords bytes) ≤ most-records → allSound other ≡ true
       → take block-bytes other ≡ take block-bytes bytes → claimsOf (fileRecords other) ≡ claimsOf (lastOnes (fileRecords bytes))
-      → opened (dateFrom bytes 16) (dateFrom bytes 20) .refused ≡ 0
       → SameStop (fileRunWith add other) (fileRecords other) (correctedRunWith add bytes) (lastOnes (fileRecords bytes))
-  -- and where opening refuses the window
-  pub same-window : (add : Adding) (bytes other : List ℕ) → allSound bytes ≡ true → allSound other ≡ true → take block-bytes other ≡ take block-bytes bytes
-      → (opened (dateFrom bytes 16) (dateFrom bytes 20) .refused ≡ 0 → ⊥) → SameWindow (fileRunWith add other) (correctedRunWith add bytes)
+  -- and so that of the struck file
+  pub struck : (add : Adding) (bytes : List ℕ) → AreBytes bytes → allSound bytes ≡ true → length (fileRecords bytes) ≤ most-records
+      → SameStop (fileRunWith add (struckFile bytes)) (fileRecords (struckFile bytes)) (correctedRunWith add bytes) (lastOnes (fileRecords bytes))
 
 -- Files that differ only in their window, with sound windows that cut one another: all corrected runs end under the same number, block and place,
--- with as many claims taken, and their sums add up in both sets, whatever the bytes behind block 0. `proofs/CorrectedFiles.antt` proves it
+-- with as many claims taken, and their sums add up in both sets, whatever the bytes behind block 0; a run that is not refused has the study of the
+-- claims kept. `proofs/CorrectedFiles.antt` proves it
 unfoldable pub correctedOf : List ℕ → List ℕ → WindowDates → CorrectedRun
 correctedOf rates rest w = correctedRun rates (windowBytes (w .first) (w .last) ++ rest)
 
@@ -153,9 +160,19 @@ pub record SameCorrectedEnd (r s : CorrectedRun) : Type 0 where
   pub place : r .place ≡ s .place
   pub taken : r .study .taken ≡ s .study .taken
 
+-- the claims kept of the records behind block 0, and that a run which is not refused has their study
+unfoldable pub keptClaims : List ℕ → List Claim
+keptClaims rest = claimsOf (lastOnes (recordsOfBlocks rest 1 (length rest / block-bytes)))
+
+abbrev pub HasKeptStudy : List ℕ → List ℕ → WindowDates → Type 0
+HasKeptStudy rates rest w =
+    correctedOf rates rest w .refused ≡ 0 → correctedOf rates rest w .study ≡ studyOf (windowDays w) rates (keptClaims rest)
+
 pub record CorrectedAddUp (rates rest : List ℕ) (whole part : WindowDates) (parts : List WindowDates) : Type 0 where
   pub same-end : EveryPart (λ w. SameCorrectedEnd (correctedOf rates rest w) (correctedOf rates rest whole)) part parts
   pub sums : total plus (λ w. correctedOf rates rest w .study .sums) part parts ≡ correctedOf rates rest whole .study .sums
+  pub whole-study : HasKeptStudy rates rest whole
+  pub part-studies : EveryPart (HasKeptStudy rates rest) part parts
 
 abbrev pub CorrectedDemand3 : Type 0
 CorrectedDemand3 =
