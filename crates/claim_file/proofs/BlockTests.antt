@@ -9,19 +9,19 @@ use lib.Dec.{eqb, leb}
 use borrow.Author.Tests.{eqb-true, leb-true}
 use Rattle.basics.proofs.Tests.{tests}
 use Rattle.claim_file.specs.Bytes.{twoAt, zeroFrom}
-use Rattle.claim_file.specs.Block.{blockNumber, claimCount, weightedSum, checkOf, claimsPadded, framed, windowBlock, claimBlock}
+use Rattle.claim_file.specs.Block.{blockNumber, claimCount, checkSum, checkOf, claimsPadded, framed, windowBlock, claimBlock}
 
 module _ (due : ℕ) (bytes : List ℕ) where
   pub framed-is : {l n k z : Bool}
       → eqb (length bytes) 512 ≡ l
       → eqb (twoAt bytes 0) due ≡ n
-      → eqb (weightedSum bytes 510 % 65521) (twoAt bytes 510) ≡ k
+      → eqb (checkSum bytes 510 % 65521) (twoAt bytes 510) ≡ k
       → zeroFrom bytes 3 13 ≡ z
       → framed due bytes ≡ (l && n && k && z)
   unfolding framed blockNumber checkOf
   framed-is l n k z = λ i. l i && n i && k i && z i
 
-  pub check-decides : eqb (weightedSum bytes 510 % 65521) (twoAt bytes 510) ≡ false → framed due bytes ≡ false
+  pub check-decides : eqb (checkSum bytes 510 % 65521) (twoAt bytes 510) ≡ false → framed due bytes ≡ false
   unfolding framed blockNumber checkOf
   check-decides e = simp (e, and-false)
 

@@ -12,13 +12,13 @@ use lib.Dec.{eqb, ltb}
 use borrow.Author.Tests.{eqb-true, eqb-false, ne-eqb, not-true}
 use Rattle.basics.proofs.Tests.{by, tests, allBelow, all-at}
 use Rattle.claim_file.specs.Bytes.{byteAt, twoAt}
-use Rattle.claim_file.specs.Block.{weightedSum, checkOf}
+use Rattle.claim_file.specs.Block.{checkSum, checkOf}
 
--- the weighted sum goes by the bytes that it sums
-pub weighted-cong : (a b : List ℕ) (n : ℕ) → ((k : ℕ) → k < n → byteAt a k ≡ byteAt b k) → weightedSum a n ≡ weightedSum b n
-unfolding weightedSum
-weighted-cong a b zero h = refl
-weighted-cong a b (suc n) h = λ i. weighted-cong a b n (λ k l. h k (omega arith)) i + (n + 1) * h n (omega arith) i
+-- the check's sum goes by the bytes that it sums
+pub check-sum-cong : (a b : List ℕ) (n : ℕ) → ((k : ℕ) → k < n → byteAt a k ≡ byteAt b k) → checkSum a n ≡ checkSum b n
+unfolding checkSum
+check-sum-cong a b zero h = refl
+check-sum-cong a b (suc n) h = λ i. check-sum-cong a b n (λ k l. h k (omega arith)) i + (n + 1) * h n (omega arith) i
 
 module _ (bytes : List ℕ) (i v : ℕ) (fits : i < length bytes) where
   here : byteAt (set bytes i v) i ≡ v
@@ -29,15 +29,15 @@ module _ (bytes : List ℕ) (i v : ℕ) (fits : i < length bytes) where
   unfolding byteAt
   elsewhere k h = getD-set-other bytes i k v 0 h
 
-  before : (n : ℕ) → n ≤ i → weightedSum (set bytes i v) n ≡ weightedSum bytes n
-  before n h = weighted-cong (set bytes i v) bytes n (λ k l. elsewhere k (λ e. omega arith))
+  before : (n : ℕ) → n ≤ i → checkSum (set bytes i v) n ≡ checkSum bytes n
+  before n h = check-sum-cong (set bytes i v) bytes n (λ k l. elsewhere k (λ e. omega arith))
 
   -- the sum moves by the byte's change times its weight
-  moved : (n : ℕ) → i < n → weightedSum (set bytes i v) n + (i + 1) * byteAt bytes i ≡ weightedSum bytes n + (i + 1) * v
-  unfolding weightedSum
+  moved : (n : ℕ) → i < n → checkSum (set bytes i v) n + (i + 1) * byteAt bytes i ≡ checkSum bytes n + (i + 1) * v
+  unfolding checkSum
   moved zero h = absurd (not-suc-le-zero h)
   moved (suc n) h =
-      by (eqb i n) (λ _. weightedSum (set bytes i v) (suc n) + (i + 1) * byteAt bytes i ≡ weightedSum bytes (suc n) + (i + 1) * v)
+      by (eqb i n) (λ _. checkSum (set bytes i v) (suc n) + (i + 1) * byteAt bytes i ≡ checkSum bytes (suc n) + (i + 1) * v)
       (λ e.
       let q : n ≡ i = sym (eqb-true i n e) in
       let t : (n + 1) * byteAt (set bytes i v) n ≡ (i + 1) * v = ap (λ (k : ℕ). (k + 1) * byteAt (set bytes i v) k) q ∙ ap (λ (b : ℕ). (i + 1) * b) here in
@@ -103,7 +103,7 @@ module _ (bytes : List ℕ) (i v : ℕ) (long : length bytes ≡ 512) (place : i
   summed h e =
       let l = elsewhere bytes i v fits 510 (λ q. omega arith) in
       let u = elsewhere bytes i v fits 511 (λ q. omega arith) in
-      differ (i + 1) (byteAt bytes i) v (omega arith) (omega arith) old new other (weightedSum bytes 510) (weightedSum (set bytes i v) 510)
+      differ (i + 1) (byteAt bytes i) v (omega arith) (omega arith) old new other (checkSum bytes 510) (checkSum (set bytes i v) 510)
       (moved bytes i v fits 510 h)
       (omega arith)
 
@@ -126,6 +126,6 @@ module _ (bytes : List ℕ) (i v : ℕ) (long : length bytes ≡ 512) (place : i
       let l = elsewhere bytes i v fits 510 (λ q. omega arith) in
       other (omega arith))
 
-  pub check-refused : eqb (weightedSum (set bytes i v) 510 % 65521) (twoAt (set bytes i v) 510) ≡ false
+  pub check-refused : eqb (checkSum (set bytes i v) 510 % 65521) (twoAt (set bytes i v) 510) ≡ false
   unfolding checkOf
   check-refused = ne-eqb _ _ (by (ltb i 510) (λ _. checkOf (set bytes i v) ≡ twoAt (set bytes i v) 510 → ⊥) (λ t. summed (omega tests)) (λ t. carried (omega tests)))

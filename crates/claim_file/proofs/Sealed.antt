@@ -12,7 +12,7 @@ use borrow.Author.Tests.{eqb-true, eq-eqb}
 use Rattle.claim_file.specs.Bytes.{byteAt, twoAt, zeroFrom, two, zeros}
 use Rattle.claim_file.specs.Block.{blockNumber, claimCount, checkOf, framed, sealed}
 use Rattle.claim_file.proofs.BlockTests.{framed-is, framed-length}
-use Rattle.claim_file.proofs.Changed.{weighted-cong}
+use Rattle.claim_file.proofs.Changed.{check-sum-cong}
 use Rattle.claim_file.proofs.ByteStores.{length-zeros}
 use Rattle.claim_file.proofs.Split.{part, part-split, zero-split, two-read}
 
@@ -20,7 +20,7 @@ use Rattle.claim_file.proofs.Split.{part, part-split, zero-split, two-r
 pub check-append : (bytes rest : List ℕ) → length bytes ≡ 510 → checkOf (bytes ++ rest) ≡ checkOf bytes
 unfolding checkOf byteAt
 check-append bytes rest h =
-    ap (λ (w : ℕ). w % 65521) (weighted-cong (bytes ++ rest) bytes 510 (λ i b. List·getD-append bytes rest 0 i (omega arith)))
+    ap (λ (w : ℕ). w % 65521) (check-sum-cong (bytes ++ rest) bytes 510 (λ i b. List·getD-append bytes rest 0 i (omega arith)))
 
 -- a number's two bytes are the number
 pub two-whole : (n : ℕ) → n < 65536 → n % 256 + 256 * (n / 256 % 256) ≡ n

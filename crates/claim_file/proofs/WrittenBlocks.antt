@@ -17,7 +17,7 @@ use Rattle.claim_file.specs.BlockAnswers.{writeSound, writeCheck, bytesA
 use Rattle.claim_file.specs.Bytes.{byteAt, two, dateBytes, zeros}
 use Rattle.claim_file.specs.Record.{allClaimBytes}
 use Rattle.claim_file.specs.Block.{checkOf, sealed, windowBytes, blockBytes}
-use Rattle.claim_file.proofs.Changed.{weighted-cong}
+use Rattle.claim_file.proofs.Changed.{check-sum-cong}
 use Rattle.basics.proofs.Stores.{run}
 use Rattle.claim_file.proofs.ByteStores.{sets-all, length-zeros, length-all}
 
@@ -27,7 +27,7 @@ unfolding checkOf byteAt
 check-stored l bytes h k =
     let e = sets-eq bytes l 0 (omega arith) in
     ap (λ (w : ℕ). w % 65521)
-    (weighted-cong (sets l 0 bytes) bytes 510
+    (check-sum-cong (sets l 0 bytes) bytes 510
     (λ i b. ap (λ (r : List ℕ). byteAt r i) e ∙ List·getD-append bytes (drop (0 + length bytes) l) 0 i (omega arith)))
 
 seal : (l a b bytes : List ℕ) → length l ≡ 512 → length bytes ≡ 510 → a ≡ sets l 0 bytes → b ≡ sets a 510 (two (checkOf a)) → b ≡ sealed bytes

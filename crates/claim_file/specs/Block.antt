@@ -22,12 +22,12 @@ unfoldable pub blockClaim : List ℕ → ℕ → Claim
 blockClaim bytes k = claimFrom bytes (16 + 32 * k)
 
 -- check 510–511: the sum over i = 0..509 of (i + 1) × byte i, modulo 65,521
-unfoldable pub weightedSum : List ℕ → ℕ → ℕ
-weightedSum bytes zero = 0
-weightedSum bytes (suc n) = weightedSum bytes n + (n + 1) * byteAt bytes n
+unfoldable pub checkSum : List ℕ → ℕ → ℕ
+checkSum bytes zero = 0
+checkSum bytes (suc n) = checkSum bytes n + (n + 1) * byteAt bytes n
 
 unfoldable pub checkOf : List ℕ → ℕ
-checkOf bytes = weightedSum bytes 510 % 65521
+checkOf bytes = checkSum bytes 510 % 65521
 
 -- the bytes past the fields of the first n claims are zero
 unfoldable pub claimsPadded : List ℕ → ℕ → Bool

@@ -8,7 +8,7 @@ ghost use mathlib.Core.List.{[], _∷_, _++_};
 ghost use Rattle.basics.specs.Limits.{block-bytes};
 ghost use Rattle.claim_file.specs.Bytes.{two, zeros};
 ghost use Rattle.claim_file.specs.Record.{allClaimBytes};
-ghost use Rattle.claim_file.specs.Block.{claimCount, blockClaim, weightedSum, claimsPadded, framed, windowBlock, claimBlock, blockSound, checkOf, windowBytes, blockBytes};
+ghost use Rattle.claim_file.specs.Block.{claimCount, blockClaim, checkSum, claimsPadded, framed, windowBlock, claimBlock, blockSound, checkOf, windowBytes, blockBytes};
 ghost use Rattle.claim_file.specs.BlockAnswers.{claimsIn, blockCheck, readOf, windowOf, writeCheck, bytesAfter, windowAfter};
 ghost use lib.Dec.{eqb};
 ghost use Rattle.basics.specs.Pick.{pick};
@@ -41,9 +41,9 @@ pub(crate) fn claim_at(bytes: &[u8], place: u8) -> Claim
 }
 
 // The sum of the first 510 bytes, each times its place from 1.
-fn weighted_sum(bytes: &[u8]) -> u32
+fn check_sum(bytes: &[u8]) -> u32
     requires { ⌜ length (now bytes) ≡ block-bytes ⌝ }
-    ensures { λ r. ⌜ r ≡ weightedSum (now (bytes .entry)) 510 ⌝ }
+    ensures { λ r. ⌜ r ≡ checkSum (now (bytes .entry)) 510 ⌝ }
 {
     // Weights below 512 are known to fit 16 bits, for which vector code is better: place 511 weighs 0, and place 510's 511 is taken off again.
     let mut sum: u32 = 0;
@@ -79,7 +79,7 @@ fn is_framed(bytes: &[u8], due: u32) -> bool
     if two_at(bytes, 0) as u32 != due {
         return false;
     }
-    if weighted_sum(bytes) % 65521 != two_at(bytes, 510) as u32 {
+    if check_sum(bytes) % 65521 != two_at(bytes, 510) as u32 {
         return false;
     }
     all_zero(bytes, 3, 13)
@@ -216,7 +216,7 @@ fn put_check(bytes: &mut [u8])
     requires { ⌜ length (now bytes) ≡ block-bytes ⌝ }
     ensures { λ _. ⌜ now (bytes .exit) ≡ sets (now (bytes .entry)) 510 (two (checkOf (now (bytes .entry)))) ⌝ }
 {
-    let check = weighted_sum(bytes) % 65521;
+    let check = check_sum(bytes) % 65521;
     put_two(check as u16, 510, bytes);
 }
 

@@ -27,13 +27,13 @@ returns-3 : tie.Need-returns-3
 returns-3 c =
     let d = c .before .before in
     sym (framed-is _ _ (size (d .before .before .before)) (number (d .before))
-    (ne-eqb _ _ (λ q. c .if3 .taken (ap (λ (n : ℕ). n % 65521) (d .weighted-sum .ensures) ∙ q ∙ sym (c .before .two-at2 .ensures)))) refl)
+    (ne-eqb _ _ (λ q. c .if3 .taken (ap (λ (n : ℕ). n % 65521) (d .check-sum .ensures) ∙ q ∙ sym (c .before .two-at2 .ensures)))) refl)
 
 returns-4 : tie.Need-returns-4
 returns-4 c =
     let d = c .before .before .before in
     sym (framed-is _ _ (size (d .before .before .before)) (number (d .before))
-    (eq-eqb _ _ (sym (ap (λ (n : ℕ). n % 65521) (d .weighted-sum .ensures)) ∙ c .before .if3 .left ∙ c .before .before .two-at2 .ensures))
+    (eq-eqb _ _ (sym (ap (λ (n : ℕ). n % 65521) (d .check-sum .ensures)) ∙ c .before .if3 .left ∙ c .before .before .two-at2 .ensures))
     (sym (c .all-zero .ensures)))
 
 pub is-framed-spec : {M : Type 1} → statement M

@@ -13,7 +13,7 @@ unfolding checkOf
 returns c =
     let d = c .before .before in
     let s = d .before .before .before .before .before .args in
-    d .put-two .ensures ∙ ap (λ (w : ℕ). sets (s .bytes .now) 510 (two (w % 65521))) (d .before .before .weighted-sum .ensures)
+    d .put-two .ensures ∙ ap (λ (w : ℕ). sets (s .bytes .now) 510 (two (w % 65521))) (d .before .before .check-sum .ensures)
 
 pub put-check-spec : {M : Type 1} → statement M
 put-check-spec =
