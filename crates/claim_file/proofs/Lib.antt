@@ -20,6 +20,7 @@ mod LentRuns
 mod RecordParts
 mod BlockTests
 mod Changed
+mod CheckColumns
 mod WrittenBlocks
 mod Split
 mod Sealed

@@ -1,15 +1,13 @@
 -- Records by their fields and as the tests of their calls come out, and the definitions of blocks step by step as the code's loops go.
 -- Assumes nothing.
-use Prim.Native.Nat.{ℕ, suc, _+_, _-_, _*_, _%_, _≤_, _<_, min}
+use Prim.Native.Nat.{ℕ, suc, _+_, _-_, _*_, _<_}
 use mathlib.Core.Path.{_≡_, refl, sym, ap, _∙_}
 use mathlib.Core.Bool.{Bool, true, false, _&&_, and-true, and-false, and-assoc}
 use mathlib.Core.List.{List}
 use native.Mathlib.Omega.{arith}
-use native.Mathlib.Nat.{mul-le-mul, zero-mul}
-use native.Mathlib.Numerals.{add-one}
 use lib.ListN.{length}
 use lib.Seq.{sets}
-use lib.Dec.{ltb, eqb}
+use lib.Dec.{eqb}
 use lib.Bits.{bitOr, or-add-and, and-le-l, and-le-r}
 use borrow.Author.Tests.{eq-eqb, ne-eqb, eqb-false}
 use Rattle.basics.proofs.Tests.{by, tests}
@@ -18,7 +16,7 @@ use Rattle.claim_file.specs.Bytes.{byteAt, zeroFrom}
 use Rattle.claim_file.specs.declared.MaybeClaim.the-variants.{Found, NoRecord}
 use Rattle.claim_file.specs.Record.{claimFrom, claimBytes, recordPadded}
 use Rattle.claim_file.specs.BlockAnswers.{hasRecord, recordIn, recordAfter}
-use Rattle.claim_file.specs.Block.{checkSum, claimsPadded}
+use Rattle.claim_file.specs.Block.{claimsPadded}
 
 pub same-claim :
     (c d : Claim)
@@ -107,25 +105,3 @@ padded-on bytes n h e = padded-step bytes n h ∙ ap (λ (t : Bool). claimsPadde
 
 pub padded-off : (bytes : List ℕ) (n : ℕ) → 0 < n → recordPadded bytes (16 + 32 * (n - 1)) ≡ false → claimsPadded bytes n ≡ false
 padded-off bytes n h e = padded-step bytes n h ∙ ap (λ (t : Bool). claimsPadded bytes (n - 1) && t) e ∙ and-false (claimsPadded bytes (n - 1))
-
-pub check-sum-step : (bytes : List ℕ) (n : ℕ) → checkSum bytes (n + 1) ≡ checkSum bytes n + (n + 1) * byteAt bytes n
-unfolding checkSum
-check-sum-step bytes n = ap (checkSum bytes) (add-one n)
-
--- one byte more, with the weight that the code gives it: one more than its place, and 0 at place 511
-pub check-sum-turn : (bytes : List ℕ) (n w : ℕ) → n < 512 → w ≡ (n + 1) % 512 → checkSum bytes (min n 511) + w * byteAt bytes n ≡ checkSum bytes (min (n + 1) 511)
-check-sum-turn bytes n w h e =
-    by (ltb n 511) (λ _. checkSum bytes (min n 511) + w * byteAt bytes n ≡ checkSum bytes (min (n + 1) 511))
-    (λ t.
-    let here : min n 511 ≡ n = omega tests in
-    let next : min (n + 1) 511 ≡ n + 1 = omega tests in
-    let weight : w ≡ n + 1 = omega tests in
-    rw (next, here, weight) (sym (check-sum-step bytes n)))
-    (λ t.
-    let last : n ≡ 511 = omega tests in
-    let weight : w ≡ 0 = omega tests in
-    rw (last, weight, zero-mul (byteAt bytes 511)) (omega arith))
-
--- a byte times its weight is at most 511 × 255
-pub check-sum-byte : (w b : ℕ) → w ≤ 511 → b < 256 → w * b ≤ 130305
-check-sum-byte w b h l = let q : b ≤ 255 = omega arith in mul-le-mul h q

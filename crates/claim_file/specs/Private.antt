@@ -1,8 +1,11 @@
--- What the private functions of this layer answer: the steps of a run whose sums are lent.
-use Prim.Native.Nat.{ℕ, _+_}
+-- What the private functions of this layer answer: the steps of a run whose sums are lent, and the columns of check 11's sum.
+use Prim.Native.Nat.{ℕ, zero, suc, _+_, _*_}
 use mathlib.Core.List.{List}
+use lib.ListN.{getD}
 use lib.Dec.{eqb}
 use Rattle.basics.specs.Pick.{pick}
+use Rattle.basics.specs.Tables.{table}
+use Rattle.claim_file.specs.Bytes.{byteAt}
 use Rattle.claim_file.specs.declared.FileRun.{FileRun}
 use Rattle.claim_file.specs.declared.LentRun.{LentRun}
 use Rattle.claim_file.specs.Run.{begun, stops}
@@ -22,3 +25,15 @@ lentStops r taken number place =
 
 unfoldable pub lentGoesOn : LentRun → ℕ → LentRun
 lentGoesOn r taken = record { window = r .window; taken = taken; due = r .due + 1; refused = 0; block = 0; place = 0 }
+
+-- check 11's sum by columns: a row of 16 bytes, two rows added, and what the first n columns from a place on add, given of each column the sum of its
+-- bytes and the sum of each byte times its row from 0
+unfoldable pub rowAt : List ℕ → ℕ → List ℕ
+rowAt bytes at = table 16 (λ c. byteAt bytes (at + c))
+
+unfoldable pub plusRow : List ℕ → List ℕ → List ℕ
+plusRow a b = table 16 (λ c. getD a c 0 + getD b c 0)
+
+unfoldable pub columnsSum : List ℕ → List ℕ → ℕ → ℕ → ℕ
+columnsSum sums byRow at zero = 0
+columnsSum sums byRow at (suc n) = columnsSum sums byRow at n + (16 * getD byRow n 0 + (at + n + 1) * getD sums n 0)

@@ -8,7 +8,7 @@ ghost use mathlib.Core.List.{[], _∷_, _++_};
 ghost use Rattle.basics.specs.Limits.{block-bytes};
 ghost use Rattle.claim_file.specs.Bytes.{two, zeros};
 ghost use Rattle.claim_file.specs.Record.{allClaimBytes};
-ghost use Rattle.claim_file.specs.Block.{claimCount, blockClaim, checkSum, claimsPadded, framed, windowBlock, claimBlock, blockSound, checkOf, windowBytes, blockBytes};
+ghost use Rattle.claim_file.specs.Block.{claimCount, blockClaim, claimsPadded, framed, windowBlock, claimBlock, blockSound, checkOf, windowBytes, blockBytes};
 ghost use Rattle.claim_file.specs.BlockAnswers.{claimsIn, blockCheck, readOf, windowOf, writeCheck, bytesAfter, windowAfter};
 ghost use lib.Dec.{eqb};
 ghost use Rattle.basics.specs.Pick.{pick};
@@ -22,6 +22,7 @@ use crate::bytes::put_date;
 use crate::bytes::put_two;
 use crate::bytes::put_zeros;
 use crate::bytes::two_at;
+use crate::check_sum::check_sum;
 use crate::record::claim_from;
 use crate::record::is_padded;
 use crate::record::no_claim;
@@ -38,19 +39,6 @@ pub(crate) fn claim_at(bytes: &[u8], place: u8) -> Claim
     ensures { λ r. ⌜ r ≡ blockClaim (now (bytes .entry)) place ⌝ }
 {
     claim_from(bytes, 16 + 32 * place as usize)
-}
-
-// The sum of the first 510 bytes, each times its place from 1.
-fn check_sum(bytes: &[u8]) -> u32
-    requires { ⌜ length (now bytes) ≡ block-bytes ⌝ }
-    ensures { λ r. ⌜ r ≡ checkSum (now (bytes .entry)) 510 ⌝ }
-{
-    // Weights below 512 are known to fit 16 bits, for which vector code is better: place 511 weighs 0, and place 510's 511 is taken off again.
-    let mut sum: u32 = 0;
-    for i in 0..BLOCK_BYTES {
-        sum += (i as u32 + 1) % 512 * bytes[i] as u32;
-    }
-    sum - 511 * bytes[510] as u32
 }
 
 // Whether the bytes past the fields of the first claims are zero.
