@@ -15,13 +15,14 @@ use Rattle.basics.specs.Checks.{check, _then_}
 use Rattle.basics.specs.Tables.{allAtMost}
 use Rattle.basics.proofs.Tests.{by}
 use Rattle.basics.proofs.Tables.{at-most-at}
-use Rattle.rates.specs.Rates.{lengthSound, cells, place, recoveryRate, deathRate, ratesSoundTo, ratesSound, rateCheck}
+use Rattle.rates.specs.Rates.{lengthSound, cells, place, recoveryRate, deathRate, ratesSound, rateCheck}
 use Rattle.rates.specs.declared.Kind.{Kind}
 use Rattle.rates.specs.declared.Kind.the-variants.{Plain, Prepared}
 use Rattle.rates.proofs.Running.{running-length, running-first, running-rates, difference-size}
 use Rattle.rates.proofs.Laws.{place-below, all-passed}
-use Rattle.rates.specs.Prepared.{cellNumbers, mark, marked, runningFrom, preparedCell, preparedCells, prepared, prepareAfter, preparedOf, preparedCheck, sumBefore, preparedRate, checkOf, recoveryOf, deathOf, SameTable}
+use Rattle.rates.specs.Prepared.{cellNumbers, mark, marked, runningFrom, preparedCell, preparedCells, prepared, prepareAfter, preparedOf, preparedCheck, sumBefore, preparedRate, tableCheckOf, recoveryOf, deathOf, SameTable}
 use Rattle.rates.proofs.Preparing.{sound-length, marked-is, sound-pair}
+use Rattle.rates.proofs.Parts.{cellPart, number-in, part-sound, part-length}
 
 -- the prepared cells by their places
 prepared-length : (xs : List ℕ) → length xs ≡ 958 → length (preparedCell xs) ≡ 958
@@ -39,11 +40,8 @@ cells-length rates (suc n) h =
     omega (arith, length-append (preparedCell (take 958 rates)) (preparedCells (drop 958 rates) n))
 
 -- cell k of a table by itself
-abbrev cellAt : List ℕ → ℕ → List ℕ
-cellAt rates k = take 958 (drop (k * 958) rates)
-
 cell-at :
-    (rates : List ℕ) (n k i : ℕ) → k < n → i < 958 → n * 958 ≤ length rates → getD (preparedCells rates n) (k * 958 + i) 0 ≡ getD (preparedCell (cellAt rates k)) i 0
+    (rates : List ℕ) (n k i : ℕ) → k < n → i < 958 → n * 958 ≤ length rates → getD (preparedCells rates n) (k * 958 + i) 0 ≡ getD (preparedCell (cellPart rates k)) i 0
 unfolding preparedCells
 cell-at rates zero k i h l m = absurd (omega arith)
 cell-at rates (suc n) zero i h l m =
@@ -56,17 +54,6 @@ cell-at rates (suc n) (suc k) i h l m =
     rw at
     (getD-append-add (preparedCell (take 958 rates)) (preparedCells (drop 958 rates) n) (k * 958 + i) 0
     ∙ rw (drop-drop (k * 958) 958 rates, from) at (cell-at (drop 958 rates) n k i (omega arith) l (omega (arith, length-drop 958 rates))))
-
-module _ (rates : List ℕ) (k : ℕ) where
-  number-in : (i : ℕ) → i < 958 → getD (cellAt rates k) i 0 ≡ getD rates (k * 958 + i) 0
-  number-in i h = getD-take 958 (drop (k * 958) rates) i 0 h ∙ getD-drop (k * 958) rates i 0
-
-  sound-in : (m : ℕ) → ratesSoundTo (cellAt rates k) 0 m ≡ ratesSoundTo rates k m
-  unfolding ratesSoundTo recoveryRate deathRate
-  sound-in zero = refl
-  sound-in (suc m) =
-      let h = place-below (m + 2) in
-      rw (zero-add (place (m + 2)), number-in (place (m + 2)) (omega arith), number-in (479 + place (m + 2)) (omega arith), ← add-assoc (k * 958) 479 (place (m + 2)), sound-in m)
 
 -- a list with a mark behind it
 module _ (xs : List ℕ) (m : ℕ) where
@@ -92,7 +79,7 @@ module _ (rates : List ℕ) (refused : lengthSound (length rates) ≡ false) whe
   both-refuse cell = (simp (unprepared, behind-marked, refused), simp refused)
 
   same-refused : SameTable rates
-  unfolding checkOf recoveryOf deathOf
+  unfolding tableCheckOf recoveryOf deathOf
   same-refused =
       record {
         same-check = λ cell. both-refuse cell .0 ∙ sym (both-refuse cell .1);
@@ -119,10 +106,10 @@ module _ (rates : List ℕ) (taken : lengthSound (length rates) ≡ true) where
 
   module _ (cell : ℕ) (within : cell < cells rates) where
     abbrev C : List ℕ
-    C = cellAt rates cell
+    C = cellPart rates cell
 
     C-length : length C ≡ 958
-    C-length = length-take-le 958 (drop (cell * 958) rates) (omega (arith, size, length-drop (cell * 958) rates))
+    C-length = part-length rates cell (omega (arith, size))
 
     number : (i : ℕ) → i < 958 → getD (preparedOf rates) (cell * 958 + i) 0 ≡ getD (preparedCell C) i 0
     number i h =
@@ -131,16 +118,16 @@ module _ (rates : List ℕ) (taken : lengthSound (length rates) ≡ true) where
         ∙ cell-at rates (cells rates) cell i within h (omega (arith, size)))
 
     marked-first : ratesSound rates cell ≡ false → 1000000 < getD (preparedOf rates) (cell * 958) 0
-    unfolding preparedCell ratesSound
+    unfolding preparedCell
     marked-first s =
         let first = rw (add-zero (cell * 958)) at (number 0 (omega arith)) in
         let some : 0 < length C = omega (arith, C-length) in
-        rw (first, sound-in rates cell 479, s, getD-set-same) (omega arith)
+        rw (first, part-sound rates cell, s, getD-set-same) (omega arith)
 
     module _ (s : ratesSound rates cell ≡ true) where
       summed : preparedCell C ≡ runningFrom 0 (take 479 C) ++ runningFrom 0 (drop 479 C)
-      unfolding preparedCell ratesSound
-      summed = rw (sound-in rates cell 479, s)
+      unfolding preparedCell
+      summed = rw (part-sound rates cell, s)
 
       first-size : length (take 479 C) ≡ 479
       first-size = length-take-le 479 C (omega (arith, C-length))
@@ -200,7 +187,7 @@ module _ (rates : List ℕ) (taken : lengthSound (length rates) ≡ true) where
       (λ q. rw (last-check cell (ltb-true cell (cells rates) q))) (λ _. refl))
 
   same-taken : SameTable rates
-  unfolding checkOf recoveryOf deathOf
+  unfolding tableCheckOf recoveryOf deathOf
   same-taken =
       record {
         same-check = checks-same;

@@ -8,10 +8,11 @@ use native.Mathlib.Omega.{arith}
 use lib.ListN.{length, getD, set, take, drop, length-append, length-take, length-drop, drop-of-length-le, List·getD-eq-default}
 use borrow.Rule.Slice.PartMut.{midOf, putMid, mid-len, same-len-mid, drop-put}
 use lib.Seq.{length-take-le, set-split, drop-drop, take-append-le, drop-append-le, getD-take, getD-drop, take-at, drop-at, take-all}
-use lib.Dec.{ltb, eqb}
+use lib.Dec.{leb, ltb, eqb}
 use native.Mathlib.Nat.{zero-add, sub-zero}
+use native.Mathlib.Numerals.{add-one}
 use Rattle.basics.proofs.Tests.{tests, by, and-left}
-use Rattle.rates.specs.Rates.{lengthSound, place, recoveryRate, deathRate, ratesSound}
+use Rattle.rates.specs.Rates.{lengthSound, place, recoveryRate, deathRate, ratesSoundTo, ratesSound}
 use Rattle.rates.proofs.Laws.{sound-at}
 use Rattle.rates.specs.Prepared.{cellNumbers, mark, marked, runningFrom, preparedCell, preparedCells}
 
@@ -45,6 +46,13 @@ pub sound-pair :
     → getD rates (cell * 958 + k) 0 + getD rates (cell * 958 + 479 + k) 0 ≤ 1000000
 unfolding ratesSound recoveryRate deathRate
 sound-pair rates cell k s h = rw (place-is k h) at (sound-at rates cell 479 k s h)
+
+-- one duration more of a cell's part
+pub sound-more :
+    (part : List ℕ) (i : ℕ) (all both : Bool) → i < 479 → all ≡ ratesSoundTo part 0 i → both ≡ leb (getD part i 0 + getD part (479 + i) 0) 1000000
+    → (all && both) ≡ ratesSoundTo part 0 (i + 1)
+unfolding ratesSoundTo recoveryRate deathRate
+sound-more part i all both h p q = rw (add-one i, place-is i h, zero-add i, p, q)
 
 -- one cell by itself
 module _ (cell : List ℕ) (len : length cell ≡ 958) (sound : ratesSound cell 0 ≡ true) where

@@ -1,6 +1,6 @@
 -- Running sums in place, and sums of rates as differences of running sums.
 -- Assumes nothing.
-use Prim.Native.Nat.{ℕ, zero, suc, _+_, _-_, _*_, _≤_, _<_, max}
+use Prim.Native.Nat.{ℕ, zero, suc, _+_, _-_, _*_, _≤_, _<_}
 use mathlib.Core.Path.{_≡_, refl, sym, ap, ap₂, _∙_}
 use mathlib.Core.List.{List, [], _∷_, _++_, append-assoc, append-nil}
 use native.Mathlib.Omega.{arith}
@@ -8,16 +8,12 @@ use native.Mathlib.Nat.{zero-add, add-zero, add-suc, add-comm, mul-comm, mul-le-
 use native.Mathlib.Numerals.{add-one}
 use lib.ListN.{length, getD, set, take, drop, length-set, drop-of-length-le}
 use lib.Seq.{drop-cons, drop-set-lt, take-suc-set, take-all}
-use lib.Dec.{eqb}
-use lib.IntN.{ℤ, pos, natAbs, negℤ, _+ℤ_, _-ℤ_, _*ℤ_, +ℤ-idr, +ℤ-assoc, +ℤ-comm, +ℤ-invr, sucℤ-*ℤ, zero-*ℤ, -ℤ-+ℤ-cancel}
+use lib.IntN.{ℤ, pos, natAbs, negℤ, _+ℤ_, _-ℤ_, _*ℤ_, +ℤ-idr, +ℤ-assoc, +ℤ-comm, +ℤ-invr, -ℤ-+ℤ-cancel}
 use Rattle.basics.specs.Series.{sumTo}
 use Rattle.basics.proofs.Integers.{sub-is, size-sub, size-product, plus-minus}
-use Rattle.basics.proofs.Tests.{tests, by}
 use Rattle.rates.specs.Rates.{place}
-use Rattle.rates.proofs.Laws.{place-below}
+use Rattle.rates.proofs.Laws.{place-below, over-more}
 use Rattle.rates.specs.Prepared.{runningFrom, sumBefore, preparedRate, ratesOver}
-use Rattle.rates.specs.declared.Places.{Places}
-use Rattle.rates.specs.Private.{PlacesOf, placesSum}
 
 -- what stands at a place of running sums
 pub running-length : (s : ℕ) (xs : List ℕ) → length (runningFrom s xs) ≡ length xs
@@ -109,71 +105,27 @@ difference-size a b h k = rw (← sub-is a b) (size-sub a b 4294967295 h k)
 pub times-size : (n : ℕ) (z : ℤ) → natAbs z ≤ 4294967295 → natAbs (pos n *ℤ z) ≤ 4294967295 * n
 times-size n z h = rw (size-product (pos n) z, mul-comm n (natAbs z)) (mul-le-mul-right n h)
 
--- the sum at some places, of the number a at the last place and b before the first; past 480 with the last difference, x less y, for each duration
-module _ (table : List ℕ) (at : ℕ) (p : Places) (a b i : ℕ) (q : a ≡ getD table i 0) (qi : i ≡ at + p .last) (r : pos b ≡ sumBefore table at (p .first)) where
-  one-difference : (s : ℤ) → s ≡ pos a -ℤ pos b → s ≡ pos (getD table (at + p .last) 0) -ℤ sumBefore table at (p .first)
-  one-difference s e = e ∙ ap₂ (λ (x y : ℤ). x -ℤ y) (ap pos (rw qi at q)) r
-
-  pub none-later : (s : ℤ) → s ≡ pos a -ℤ pos b → p .later ≡ 0 → s ≡ placesSum table at p
-  unfolding placesSum
-  none-later s e z =
-      let rate = pos (getD table (at + 478) 0) -ℤ pos (getD table (at + 477) 0) in
-      rw (z, zero-*ℤ rate, +ℤ-idr (pos (getD table (at + p .last) 0) -ℤ sumBefore table at (p .first))) (one-difference s e)
-
-  pub some-later : (s t : ℤ) (x y j k : ℕ) → s ≡ pos a -ℤ pos b → t ≡ pos x -ℤ pos y → x ≡ getD table j 0 → j ≡ at + 478 → y ≡ getD table k 0 → k ≡ at + 477
-      → s +ℤ pos (p .later) *ℤ t ≡ placesSum table at p
-  unfolding placesSum
-  some-later s t x y j k e f g gj h hk =
-      ap₂ (λ (v w : ℤ). v +ℤ pos (p .later) *ℤ w) (one-difference s e) (f ∙ ap₂ (λ (v w : ℕ). pos v -ℤ pos w) (rw gj at g) (rw hk at h))
-
 -- differences over neighbouring stretches add up
 chain : (a b c : ℤ) → (b -ℤ a) +ℤ (c -ℤ b) ≡ c -ℤ a
 chain a b c = +ℤ-comm (b -ℤ a) (c -ℤ b) ∙ sym (+ℤ-assoc (c -ℤ b) b (negℤ a)) ∙ ap (λ (x : ℤ). x +ℤ negℤ a) (-ℤ-+ℤ-cancel c b)
 
--- the rates of running sums that start at a place, from a duration on: up to 480 the sum is one difference, and each later one adds the last
--- difference again
-module _ (table : List ℕ) (at d : ℕ) where
+-- the rates of running sums at n places from p on are one difference
+module _ (table : List ℕ) (at p : ℕ) where
   abbrev before : ℕ → ℤ
   before = sumBefore table at
 
-  rate-after : (j p : ℕ) → place (max d 2 + j) ≡ p → preparedRate table at (max d 2 + j) ≡ before (suc p) -ℤ before p
-  unfolding preparedRate sumBefore
-  rate-after j p e = rw e
+  rate-after : (n : ℕ) → p + n < 479 → preparedRate table at (p + 2 + n) ≡ before (suc (p + n)) -ℤ before (p + n)
+  unfolding preparedRate sumBefore place
+  rate-after n h = let e : place (p + 2 + n) ≡ p + n = omega arith in rw e
 
-  over-within : (n : ℕ) → place d + n ≤ 479 → ratesOver (preparedRate table at) d n ≡ before (place d + n) -ℤ before (place d)
-  unfolding ratesOver sumTo place
-  over-within zero h = rw (add-zero (place d)) (sym (+ℤ-invr (before (place d))))
-  over-within (suc n) h =
-      rw (over-within n (omega arith), rate-after n (place d + n) (omega arith), add-suc (place d) n)
-      (chain (before (place d)) (before (place d + n)) (before (suc (place d + n))))
+  over-running : (n : ℕ) → p + n ≤ 479 → ratesOver (preparedRate table at) (p + 2) n ≡ before (p + n) -ℤ before p
+  unfolding ratesOver sumTo
+  over-running zero h = rw (add-zero p) (sym (+ℤ-invr (before p)))
+  over-running (suc n) h =
+      over-more (preparedRate table at) (p + 2) n (omega arith)
+      ∙ rw (over-running n (omega arith), rate-after n (omega arith), add-suc p n) (chain (before p) (before (p + n)) (before (suc (p + n))))
 
-  over-past : (n m : ℕ) → place d + n ≡ 479
-      → ratesOver (preparedRate table at) d (n + m) ≡ (before 479 -ℤ before (place d)) +ℤ pos m *ℤ (before 479 -ℤ before 478)
-  unfolding ratesOver sumTo place
-  over-past n zero h =
-      rw (add-zero n, zero-*ℤ (before 479 -ℤ before 478), +ℤ-idr (before 479 -ℤ before (place d)))
-      (rw h at (over-within n (omega arith)))
-  over-past n (suc m) h =
-      rw (add-suc n m, over-past n m h, rate-after (n + m) 478 (omega arith), sucℤ-*ℤ (pos m) (before 479 -ℤ before 478))
-      (+ℤ-assoc (before 479 -ℤ before (place d)) (pos m *ℤ (before 479 -ℤ before 478)) (before 479 -ℤ before 478))
-
-  -- the rates at n durations from d on, by their places
-  places-sum : (n : ℕ) (p : Places) → PlacesOf d n p → placesSum table at p ≡ ratesOver (preparedRate table at) d n
-  unfolding placesSum sumBefore
-  places-sum n p q =
-      by (eqb (p .later) 0) (λ _. placesSum table at p ≡ ratesOver (preparedRate table at) d n)
-      (λ t.
-      let none : p .later ≡ 0 = omega tests in
-      let end : suc (p .last) ≡ place d + n = omega (tests, q .first-is, q .all) in
-      rw (none, zero-*ℤ (before 479 -ℤ before 478), +ℤ-idr (before (suc (p .last)) -ℤ before (p .first)))
-      (ap₂ (λ (x y : ℕ). before x -ℤ before y) end (q .first-is) ∙ sym (over-within n (omega (tests, q .high)))))
-      (λ t.
-      let more : n ≡ (479 - place d) + p .later = omega (tests, q .first-is, q .all, q .past (omega tests), place-below d) in
-      ap₂ (λ (x y : ℕ). (before (suc x) -ℤ before y) +ℤ pos (p .later) *ℤ (before 479 -ℤ before 478)) (q .past (omega tests)) (q .first-is)
-      ∙ rw more (sym (over-past (479 - place d) (p .later) (omega (tests, place-below d)))))
-
-  -- a number that is the sum at these places is the sum of the rates, and no larger than so many rates can be
-  pub at-places :
-      (n : ℕ) (p : Places) → PlacesOf d n p → (k : ℕ) (s : ℤ) → s ≡ placesSum table k p → natAbs s ≤ 4294967295 * (1 + p .later) → k ≡ at
-      → (s ≡ ratesOver (preparedRate table at) d n) × (natAbs s ≤ 4294967295 * n)
-  at-places n p q k s e h same = (rw same at e ∙ places-sum n p q, omega (tests, q .all, q .ordered))
+  -- the difference of the numbers before the last place and before the first
+  pub difference-is : (n : ℕ) (s : ℤ) (x y : ℕ) → p + n ≤ 479 → s ≡ pos x -ℤ pos y → pos x ≡ before (p + n) → pos y ≡ before p
+      → s ≡ ratesOver (preparedRate table at) (p + 2) n
+  difference-is n s x y h e f g = e ∙ ap₂ (λ (u v : ℤ). u -ℤ v) f g ∙ sym (over-running n h)

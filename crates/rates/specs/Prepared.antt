@@ -69,9 +69,9 @@ unfoldable pub preparedRate : List ℕ → ℕ → ℕ → ℤ
 preparedRate table at d = pos (getD table (at + place d) 0) -ℤ sumBefore table at (place d)
 
 -- Checks and rates of either kind of table
-unfoldable pub checkOf : Kind → List ℕ → ℕ → ℕ
-checkOf Plain table cell = rateCheck table cell
-checkOf Prepared table cell = preparedCheck table cell
+unfoldable pub tableCheckOf : Kind → List ℕ → ℕ → ℕ
+tableCheckOf Plain table cell = rateCheck table cell
+tableCheckOf Prepared table cell = preparedCheck table cell
 
 unfoldable pub recoveryOf : Kind → List ℕ → ℕ → ℕ → ℤ
 recoveryOf Plain table cell d = pos (recoveryRate table cell d)
@@ -80,6 +80,13 @@ recoveryOf Prepared table cell d = preparedRate table (cell * cell-numbers) d
 unfoldable pub deathOf : Kind → List ℕ → ℕ → ℕ → ℤ
 deathOf Plain table cell d = pos (deathRate table cell d)
 deathOf Prepared table cell d = preparedRate table (cell * cell-numbers + 479) d
+
+-- The rates of a cell from its part of a table: 958 numbers, a table of that one cell. A list of another length has no rates
+unfoldable pub partRecovery : Kind → List ℕ → ℕ → ℤ
+partRecovery kind part d = pick (eqb (length part) cell-numbers) (recoveryOf kind part 0 d) (pos 0)
+
+unfoldable pub partDeath : Kind → List ℕ → ℕ → ℤ
+partDeath kind part d = pick (eqb (length part) cell-numbers) (deathOf kind part 0 d) (pos 0)
 
 -- the sum of the rates at n durations from d on, past 480 too; none is before 2
 unfoldable pub ratesOver : (ℕ → ℤ) → ℕ → ℕ → ℤ
@@ -91,6 +98,6 @@ preparedOf rates = prepareAfter (rates ++ (0 ∷ []))
 
 -- Its checks and rates are those of the rates, for every list of numbers and every cell; `proofs/PreparedTables.antt` proves it
 pub record SameTable (rates : List ℕ) : Type 0 where
-  pub same-check : (cell : ℕ) → checkOf Prepared (preparedOf rates) cell ≡ checkOf Plain rates cell
-  pub same-recovery : (cell d : ℕ) → checkOf Plain rates cell ≡ 0 → recoveryOf Prepared (preparedOf rates) cell d ≡ recoveryOf Plain rates cell d
-  pub same-death : (cell d : ℕ) → checkOf Plain rates cell ≡ 0 → deathOf Prepared (preparedOf rates) cell d ≡ deathOf Plain rates cell d
+  pub same-check : (cell : ℕ) → tableCheckOf Prepared (preparedOf rates) cell ≡ tableCheckOf Plain rates cell
+  pub same-recovery : (cell d : ℕ) → tableCheckOf Plain rates cell ≡ 0 → recoveryOf Prepared (preparedOf rates) cell d ≡ recoveryOf Plain rates cell d
+  pub same-death : (cell d : ℕ) → tableCheckOf Plain rates cell ≡ 0 → deathOf Prepared (preparedOf rates) cell d ≡ deathOf Plain rates cell d

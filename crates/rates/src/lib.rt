@@ -1,7 +1,8 @@
 // The lent rate table: its checks, the rates of a cell at a duration, and the group of a duration.
 ghost use mathlib.Core.Path.{_≡_};
-ghost use Prim.Native.Nat.{_+_, _*_, _≤_};
-ghost use lib.ListN.{getD};
+ghost use Prim.Native.Nat.{_+_, _-_, _*_, _≤_};
+ghost use lib.Dec.{leb};
+ghost use lib.ListN.{length, getD};
 ghost use denote.Ref.{now};
 ghost use Rattle.basics.specs.Limits.{cell-numbers};
 ghost use Rattle.rates.specs.Rates.{place, lengthSound, rateCheck, ratesSound, recoveryRate, deathRate, groupOf, lastOf, groupLast};
@@ -27,13 +28,6 @@ pub enum Kind {
 pub struct RateSums {
     pub recoveries: i64,
     pub deaths: i64,
-}
-
-// The places of some durations among a cell's 479 numbers of one kind, from the first to the last, and how many durations are past the last place.
-struct Places {
-    first: usize,
-    last: usize,
-    later: u16,
 }
 
 // The place of a duration among a cell's 479 rates of one kind.
@@ -75,20 +69,34 @@ pub fn death(rates: &[u32], cell: Cell, duration: Duration) -> u32
     rate(rates, cell, 479, duration)
 }
 
-// Whether recovery and death rate of a cell are together at most 1,000,000 at each duration from 2 to 480.
-pub(crate) fn sound(rates: &[u32], cell: Cell) -> bool
-    ensures { λ r. ⌜ r ≡ ratesSound (now (rates .entry)) (cell .0) ⌝ }
+// What a rate leaves of 1,000,000: nothing where it is larger.
+fn left_of(rate: u32) -> u32
+    ensures { λ r. ⌜ r ≡ 1000000 - rate ⌝ }
 {
-    let mut n: u32 = 0;
-    while n < 479 {
-        let duration = Duration(n + 2);
-        let both = recovery(rates, cell, duration) as u64 + death(rates, cell, duration) as u64;
-        if both > 1000000 {
-            return false;
-        }
-        n += 1;
+    if rate > 1000000 {
+        return 0;
     }
-    true
+    1000000 - rate
+}
+
+// Whether a recovery and a death rate are together at most 1,000,000; `&` has no branch.
+fn are_sound(recovery: u32, death: u32) -> bool
+    ensures { λ r. ⌜ r ≡ leb (recovery + death) 1000000 ⌝ }
+{
+    (recovery <= 1000000) & (death <= left_of(recovery))
+}
+
+// Whether recovery and death rate of a cell's part are together at most 1,000,000 at each duration from 2 to 480. With no early exit and no branch the
+// loop looks at several durations at once.
+pub(crate) fn sound(part: &[u32]) -> bool
+    requires { ⌜ length (now part) ≡ cell-numbers ⌝ }
+    ensures { λ r. ⌜ r ≡ ratesSound (now (part .entry)) 0 ⌝ }
+{
+    let mut all = true;
+    for i in 0..479 {
+        all &= are_sound(part[i], part[479 + i]);
+    }
+    all
 }
 
 // Whether a table may have so many numbers: 958 for each of 1 to 1,024 cells.
@@ -115,18 +123,20 @@ pub fn check(rates: &[u32], cell: Cell) -> u8
     if cell.0 as usize >= rates.len() / CELL_NUMBERS {
         return refusal::CELL;
     }
-    if sound(rates, cell) {
+    let from = cell.0 as usize * CELL_NUMBERS;
+    let to = from + CELL_NUMBERS;
+    if sound(&rates[from..to]) {
         return 0;
     }
     refusal::RATE
 }
 
-// 1 where a duration in months is above a bound, else 0.
-fn above(months: u32, bound: u32) -> u8
-    ensures { λ r. ⌜ r ≡ oneAbove bound months ⌝ }
+// 1 where a duration is above another, else 0.
+fn above(duration: Duration, bound: Duration) -> u8
+    ensures { λ r. ⌜ r ≡ oneAbove (bound .0) (duration .0) ⌝ }
     ensures { λ r. ⌜ r ≤ 1 ⌝ }
 {
-    if months > bound {
+    if duration.0 > bound.0 {
         return 1;
     }
     0
@@ -136,8 +146,11 @@ fn above(months: u32, bound: u32) -> u8
 pub fn group(duration: Duration) -> u8
     ensures { λ r. ⌜ r ≡ groupOf (duration .0) ⌝ }
 {
-    let months = duration.0;
-    1 + above(months, 3) + above(months, 24) + above(months, 60) + above(months, 120)
+    1
+        + above(duration, Duration(3))
+        + above(duration, Duration(24))
+        + above(duration, Duration(60))
+        + above(duration, Duration(120))
 }
 
 // The last duration of a group; one without a last has 2^32 - 1.

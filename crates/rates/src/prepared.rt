@@ -1,25 +1,21 @@
-// Preparing a table in place, and the rates of a table of either kind.
+// Preparing a table in place, and the checks and rates of a table of either kind.
 ghost use mathlib.Core.Path.{_≡_};
-ghost use Prim.Native.Nat.{ℕ, _+_, _*_, _≤_, _<_};
-ghost use lib.IntN.{pos, natAbs, _+ℤ_, _-ℤ_, _*ℤ_};
+ghost use Prim.Native.Nat.{ℕ, _+_, _-_, _*_, _≤_, _<_, min};
+ghost use lib.IntN.{pos, natAbs, _-ℤ_};
 ghost use lib.ListN.{length, getD};
 ghost use denote.Ref.{now};
 ghost use Rattle.basics.specs.Limits.{cell-numbers};
-ghost use Rattle.rates.specs.Rates.{place};
-ghost use Rattle.rates.specs.Prepared.{runningFrom, preparedCell, marked, prepareCheck, prepareAfter, preparedCheck, sumBefore, preparedRate, checkOf, recoveryOf, deathOf, ratesOver};
-ghost use Rattle.rates.specs.Private.{PlacesOf, placesSum};
+ghost use Rattle.rates.specs.Rates.{recoveryRate, deathRate};
+ghost use Rattle.rates.specs.Prepared.{runningFrom, preparedCell, marked, prepareCheck, prepareAfter, preparedCheck, sumBefore, tableCheckOf, recoveryOf, deathOf, ratesOver, partRecovery, partDeath};
 use crate::Cell;
 use crate::Kind;
-use crate::Places;
 use crate::RateSums;
 use crate::check;
 use crate::is_table;
 use crate::place_of;
-use crate::rate;
 use crate::sound;
 use basics::Duration;
 use basics::limits::CELL_NUMBERS;
-use basics::limits::LAST_DURATION;
 use basics::refusal;
 
 // Replaces numbers by their running sums.
@@ -40,7 +36,7 @@ fn prepare_cell(cell: &mut [u32])
     requires { ⌜ length (now cell) ≡ cell-numbers ⌝ }
     ensures { λ _. ⌜ now (cell .exit) ≡ preparedCell (now (cell .entry)) ⌝ }
 {
-    if !sound(cell, Cell(0)) {
+    if !sound(cell) {
         cell[0] = 4294967295;
         return;
     }
@@ -80,16 +76,6 @@ pub fn prepare(table: &mut [u32]) -> u8
     0
 }
 
-// A number of a table; 0 past it.
-fn number_at(table: &[u32], at: usize) -> u32
-    ensures { λ r. ⌜ r ≡ getD (now (table .entry)) at 0 ⌝ }
-{
-    if at < table.len() {
-        return table[at];
-    }
-    0
-}
-
 // The checks 6 to 8 with a prepared table.
 fn check_prepared(table: &[u32], cell: Cell) -> u8
     ensures { λ r. ⌜ r ≡ preparedCheck (now (table .entry)) (cell .0) ⌝ }
@@ -100,7 +86,8 @@ fn check_prepared(table: &[u32], cell: Cell) -> u8
     if cell.0 as usize >= (table.len() - 1) / CELL_NUMBERS {
         return refusal::CELL;
     }
-    if number_at(table, cell.0 as usize * CELL_NUMBERS) > 1000000 {
+    let first = cell.0 as usize * CELL_NUMBERS;
+    if table[first] > 1000000 {
         return refusal::RATE;
     }
     0
@@ -108,7 +95,7 @@ fn check_prepared(table: &[u32], cell: Cell) -> u8
 
 // The number of the first of the checks 6 to 8 that fails for a table of either kind and a cell, or 0.
 pub fn check_of(kind: Kind, table: &[u32], cell: Cell) -> u8
-    ensures { λ r. ⌜ r ≡ checkOf kind (now (table .entry)) (cell .0) ⌝ }
+    ensures { λ r. ⌜ r ≡ tableCheckOf kind (now (table .entry)) (cell .0) ⌝ }
 {
     match kind {
         Kind::Plain => check(table, cell),
@@ -117,167 +104,95 @@ pub fn check_of(kind: Kind, table: &[u32], cell: Cell) -> u8
 }
 
 // The running sum before a place of the sums that start at a number; 0 before the first.
-fn sum_before(table: &[u32], at: usize, place: usize) -> u32
-    requires { ⌜ at ≤ 4294967295 * cell-numbers + 479 ⌝ }
-    requires { ⌜ place < 479 ⌝ }
-    ensures { λ r. ⌜ pos r ≡ sumBefore (now (table .entry)) at place ⌝ }
+fn sum_before(part: &[u32], at: usize, place: usize) -> u32
+    requires { ⌜ at + place ≤ length (now part) ⌝ }
+    ensures { λ r. ⌜ pos r ≡ sumBefore (now (part .entry)) at place ⌝ }
 {
-    if place == 0 {
-        return 0;
+    if place > 0 {
+        return part[at + place - 1];
     }
-    number_at(table, at + place - 1)
-}
-
-// The places of some durations from one on.
-fn places_of(from: Duration, months: u16) -> Places
-    requires { ⌜ 0 < months ⌝ }
-    ensures { λ r. ⌜ PlacesOf (from .0) months r ⌝ }
-{
-    let first = place_of(from);
-    let end = first + months as usize;
-    if end < 479 {
-        return Places {
-            first,
-            last: end - 1,
-            later: 0,
-        };
-    }
-    Places {
-        first,
-        last: 478,
-        later: (end - 479) as u16,
-    }
+    0
 }
 
 // The difference of two numbers of a table.
 fn difference(number: u32, before: u32) -> i64
     ensures { λ r. ⌜ r ≡ pos number -ℤ pos before ⌝ }
-    ensures { λ r. ⌜ natAbs r ≤ 4294967295 ⌝ }
 {
     number as i64 - before as i64
 }
 
-// A sum and a rate again with each later duration.
-fn with_later(sum: i64, later: u16, rate: i64) -> i64
-    requires { ⌜ natAbs sum ≤ 4294967295 ⌝ }
-    requires { ⌜ natAbs rate ≤ 4294967295 ⌝ }
-    ensures { λ r. ⌜ r ≡ sum +ℤ pos later *ℤ rate ⌝ }
-    ensures { λ r. ⌜ natAbs r ≤ 4294967295 * (1 + later) ⌝ }
+// The sums of a cell's rates at some places from one on: one loop.
+fn plain_at(part: &[u32], first: usize, months: u16) -> RateSums
+    requires { ⌜ length (now part) ≡ cell-numbers ⌝ }
+    requires { ⌜ first + months ≤ 479 ⌝ }
+    ensures { λ r. ⌜ r .recoveries ≡ ratesOver (λ d. pos (recoveryRate (now (part .entry)) 0 d)) (first + 2) months ⌝ }
+    ensures { λ r. ⌜ r .deaths ≡ ratesOver (λ d. pos (deathRate (now (part .entry)) 0 d)) (first + 2) months ⌝ }
 {
-    sum + later as i64 * rate
-}
-
-// The sum of the rates at some places of running sums that start at a number: past 480 the last difference again with each duration.
-fn prepared_sum(table: &[u32], at: usize, places: Places) -> i64
-    requires { ⌜ at ≤ 4294967295 * cell-numbers + 479 ⌝ }
-    requires { ⌜ places .first ≤ places .last ⌝ }
-    requires { ⌜ places .last ≤ 478 ⌝ }
-    ensures { λ r. ⌜ r ≡ placesSum (now (table .entry)) at places ⌝ }
-    ensures { λ r. ⌜ natAbs r ≤ 4294967295 * (1 + places .later) ⌝ }
-{
-    let within = difference(
-        number_at(table, at + places.last),
-        sum_before(table, at, places.first),
-    );
-    if places.later == 0 {
-        return within;
+    let mut recoveries: u64 = 0;
+    let mut deaths: u64 = 0;
+    for i in 0..months as usize {
+        recoveries += part[first + i] as u64;
+        deaths += part[479 + first + i] as u64;
     }
-    with_later(
-        within,
-        places.later,
-        difference(number_at(table, at + 478), number_at(table, at + 477)),
-    )
-}
-
-// The running sum before a place of the sums that start at a number, where they are all in the table; 0 before the first.
-fn stored_before(table: &[u32], at: usize, place: usize) -> u32
-    requires { ⌜ at + place ≤ length (now table) ⌝ }
-    ensures { λ r. ⌜ pos r ≡ sumBefore (now (table .entry)) at place ⌝ }
-{
-    if place > 0 {
-        return table[at + place - 1];
+    RateSums {
+        recoveries: recoveries as i64,
+        deaths: deaths as i64,
     }
-    0
 }
 
-// The same sum where the running sums are all in the table: no number is looked for.
-fn stored_sum(table: &[u32], at: usize, places: Places) -> i64
-    requires { ⌜ at + 479 ≤ length (now table) ⌝ }
-    requires { ⌜ places .first ≤ places .last ⌝ }
-    requires { ⌜ places .last ≤ 478 ⌝ }
-    ensures { λ r. ⌜ r ≡ placesSum (now (table .entry)) at places ⌝ }
-    ensures { λ r. ⌜ natAbs r ≤ 4294967295 * (1 + places .later) ⌝ }
+// The same with a part of either kind: of running sums, one difference.
+fn rates_at(kind: Kind, part: &[u32], first: usize, months: u16) -> RateSums
+    requires { ⌜ length (now part) ≡ cell-numbers ⌝ }
+    requires { ⌜ first + months ≤ 479 ⌝ }
+    ensures { λ r. ⌜ r .recoveries ≡ ratesOver (recoveryOf kind (now (part .entry)) 0) (first + 2) months ⌝ }
+    ensures { λ r. ⌜ r .deaths ≡ ratesOver (deathOf kind (now (part .entry)) 0) (first + 2) months ⌝ }
 {
-    let last = at + places.last;
-    let within = difference(table[last], stored_before(table, at, places.first));
-    let later = places.later;
-    if later == 0 {
-        return within;
+    let end = first + months as usize;
+    match kind {
+        Kind::Plain => plain_at(part, first, months),
+        Kind::Prepared => RateSums {
+            recoveries: difference(sum_before(part, 0, end), sum_before(part, 0, first)),
+            deaths: difference(sum_before(part, 479, end), sum_before(part, 479, first)),
+        },
     }
-    with_later(within, later, difference(table[at + 478], table[at + 477]))
 }
 
-// The sums of the rates of a cell whose running sums start at a number. Whether they are all in the table is looked at once.
-fn prepared_sums(table: &[u32], at: usize, from: Duration, months: u16) -> RateSums
-    requires { ⌜ at ≤ 4294967295 * cell-numbers ⌝ }
-    ensures { λ r. ⌜ r .recoveries ≡ ratesOver (preparedRate (now (table .entry)) at) (from .0) months ⌝ }
-    ensures { λ r. ⌜ r .deaths ≡ ratesOver (preparedRate (now (table .entry)) (at + 479)) (from .0) months ⌝ }
+// How many of some months, the first of which has a place, are up to duration 480.
+fn months_within(first: usize, months: u16) -> u16
+    requires { ⌜ first < 479 ⌝ }
+    ensures { λ r. ⌜ r ≡ min months (479 - first) ⌝ }
+{
+    let left = (479 - first) as u16;
+    if months < left {
+        return months;
+    }
+    left
+}
+
+// The sums of a cell's rates at some durations from one on, of the cell's part of a table of either kind: past 480 the rates of 480 again with each
+// month. A list that isn't of 958 numbers has no rates.
+pub fn rates_over(kind: Kind, part: &[u32], from: Duration, months: u16) -> RateSums
+    ensures { λ r. ⌜ r .recoveries ≡ ratesOver (partRecovery kind (now (part .entry))) (from .0) months ⌝ }
+    ensures { λ r. ⌜ r .deaths ≡ ratesOver (partDeath kind (now (part .entry))) (from .0) months ⌝ }
     ensures { λ r. ⌜ natAbs (r .recoveries) ≤ 4294967295 * months ⌝ }
     ensures { λ r. ⌜ natAbs (r .deaths) ≤ 4294967295 * months ⌝ }
 {
-    if months == 0 {
+    if part.len() != CELL_NUMBERS {
         return RateSums {
             recoveries: 0,
             deaths: 0,
         };
     }
-    let places = places_of(from, months);
-    if at + CELL_NUMBERS > table.len() {
-        return RateSums {
-            recoveries: prepared_sum(table, at, places),
-            deaths: prepared_sum(table, at + 479, places),
-        };
+    let first = place_of(from);
+    let within = months_within(first, months);
+    let sums = rates_at(kind, part, first, within);
+    if within == months {
+        return sums;
     }
+    let last = rates_at(kind, part, 478, 1);
+    let later = (months - within) as i64;
     RateSums {
-        recoveries: stored_sum(table, at, places),
-        deaths: stored_sum(table, at + 479, places),
-    }
-}
-
-// The sum of the rates at some durations, of rates that start `from` places into a cell.
-fn plain_sum(table: &[u32], cell: Cell, from: u16, duration: Duration, months: u16) -> i64
-    ensures { λ r. ⌜ r ≡ ratesOver (λ d. pos (getD (now (table .entry)) (cell .0 * cell-numbers + from + place d) 0)) (duration .0) months ⌝ }
-    ensures { λ r. ⌜ natAbs r ≤ 4294967295 * months ⌝ }
-{
-    let mut sum: u64 = 0;
-    let mut next = duration.0;
-    if next < 2 {
-        next = 2;
-    }
-    let mut done: u16 = 0;
-    while done < months {
-        sum += rate(table, cell, from, Duration(next)) as u64;
-        if next < LAST_DURATION {
-            next += 1;
-        }
-        done += 1;
-    }
-    sum as i64
-}
-
-// The sums of a cell's rates at some durations from one on.
-pub fn rate_sums(kind: Kind, table: &[u32], cell: Cell, from: Duration, months: u16) -> RateSums
-    ensures { λ r. ⌜ r .recoveries ≡ ratesOver (recoveryOf kind (now (table .entry)) (cell .0)) (from .0) months ⌝ }
-    ensures { λ r. ⌜ r .deaths ≡ ratesOver (deathOf kind (now (table .entry)) (cell .0)) (from .0) months ⌝ }
-    ensures { λ r. ⌜ natAbs (r .recoveries) ≤ 4294967295 * months ⌝ }
-    ensures { λ r. ⌜ natAbs (r .deaths) ≤ 4294967295 * months ⌝ }
-{
-    let at = cell.0 as usize * CELL_NUMBERS;
-    match kind {
-        Kind::Plain => RateSums {
-            recoveries: plain_sum(table, cell, 0, from, months),
-            deaths: plain_sum(table, cell, 479, from, months),
-        },
-        Kind::Prepared => prepared_sums(table, at, from, months),
+        recoveries: sums.recoveries + later * last.recoveries,
+        deaths: sums.deaths + later * last.deaths,
     }
 }

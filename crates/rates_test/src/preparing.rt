@@ -4,7 +4,7 @@ use rates::Cell;
 use rates::Kind;
 use rates::prepared::check_of;
 use rates::prepared::prepare;
-use rates::prepared::rate_sums;
+use rates::prepared::rates_over;
 use test_support::numbers::bits;
 use test_support::print::put;
 use test_support::print::put_next;
@@ -33,38 +33,47 @@ fn check_start(kind: Kind, list: &[u32], count: usize) {
     }
 }
 
-// The sums of the recovery and the death rates of a cell over some durations.
-fn put_sum(kind: Kind, table: &[u32], cell: u32, from: u32, months: u16) {
-    let sums = rate_sums(kind, table, Cell(cell), Duration(from), months);
+// The sums of the recovery and the death rates of a cell's part over some durations.
+fn put_sum(kind: Kind, part: &[u32], from: u32, months: u16) {
+    let sums = rates_over(kind, part, Duration(from), months);
     put_next(bits(sums.recoveries));
     put_next(bits(sums.deaths));
 }
 
 // Sums from before duration 2, up to 480 and past it.
-fn put_sums(kind: Kind, table: &[u32], cell: u32) {
-    put(b"cell");
-    put_next(cell as u64);
+fn put_sums(kind: Kind, part: &[u32]) {
     put(b" sums");
-    put_sum(kind, table, cell, 2, 0);
-    put_sum(kind, table, cell, 0, 1);
-    put_sum(kind, table, cell, 2, 2);
-    put_sum(kind, table, cell, 3, 477);
-    put_sum(kind, table, cell, 2, 479);
-    put_sum(kind, table, cell, 2, 480);
-    put_sum(kind, table, cell, 480, 3);
-    put_sum(kind, table, cell, 481, 1);
-    put_sum(kind, table, cell, 4294967295, 65535);
+    put_sum(kind, part, 2, 0);
+    put_sum(kind, part, 0, 1);
+    put_sum(kind, part, 2, 2);
+    put_sum(kind, part, 3, 477);
+    put_sum(kind, part, 2, 479);
+    put_sum(kind, part, 2, 480);
+    put_sum(kind, part, 480, 3);
+    put_sum(kind, part, 481, 1);
+    put_sum(kind, part, 4294967295, 65535);
     put(b"\n");
 }
 
-// The sums of the first `count` numbers of a list in the first cell, in the last, and past it.
-fn sum_start(kind: Kind, list: &[u32], count: usize) {
-    if count <= list.len() {
-        let table = &list[0..count];
-        put_sums(kind, table, 0);
-        put_sums(kind, table, 64);
-        put_sums(kind, table, 65);
+// The sums of the numbers of a list from one up to before another, as a cell's part.
+fn put_part(kind: Kind, list: &[u32], from: usize, to: usize) {
+    if from <= to {
+        if to <= list.len() {
+            put(b"part");
+            put_next(from as u64);
+            put_next(to as u64);
+            put_sums(kind, &list[from..to]);
+        }
     }
+}
+
+// The sums of the first cell and the 65th, and of lists that aren't of 958 numbers.
+fn put_parts(kind: Kind, list: &[u32]) {
+    put_part(kind, list, 0, 958);
+    put_part(kind, list, 61312, 62270);
+    put_part(kind, list, 0, 0);
+    put_part(kind, list, 0, 957);
+    put_part(kind, list, 0, 959);
 }
 
 fn put_wide(number: u32) {
@@ -88,7 +97,7 @@ fn put_checks(kind: Kind, table: &[u32; 62271], count: usize) {
 
 fn put_table(kind: Kind, table: &[u32; 62271], count: usize) {
     check_start(kind, table, count);
-    sum_start(kind, table, count);
+    put_parts(kind, table);
 }
 
 // Numbers of the first, the second and the 65th cell, first and last of each kind of rates, and the mark.
@@ -158,16 +167,15 @@ pub(crate) fn put_most(table: &mut [u32; 981951]) {
     check_start(Kind::Prepared, table, 981951);
 }
 
-// Numbers that are no running sums, under the mark of a prepared table: differences below 0.
+// Numbers that are no running sums, as a cell of a prepared table: differences below 0.
 pub(crate) fn put_falling() {
-    let mut table = [0u32; 959];
-    table[0] = 5;
-    table[1] = 3;
-    table[477] = 9;
-    table[478] = 4;
-    table[958] = 1;
+    let mut part = [0u32; 958];
+    part[0] = 5;
+    part[1] = 3;
+    part[477] = 9;
+    part[478] = 4;
     put(b"falling");
-    put_sum(Kind::Prepared, &table, 0, 3, 1);
-    put_sum(Kind::Prepared, &table, 0, 479, 3);
+    put_sum(Kind::Prepared, &part, 3, 1);
+    put_sum(Kind::Prepared, &part, 479, 3);
     put(b"\n");
 }

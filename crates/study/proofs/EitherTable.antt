@@ -18,7 +18,7 @@ use Rattle.claim_months.specs.Exposure.{monthRecords}
 use Rattle.claim_months.specs.Windows.{windowCheck}
 use Rattle.rates.specs.declared.Kind.{Kind}
 use Rattle.rates.specs.declared.Kind.the-variants.{Plain, Prepared}
-use Rattle.rates.specs.Prepared.{checkOf, recoveryOf, deathOf, preparedOf}
+use Rattle.rates.specs.Prepared.{tableCheckOf, recoveryOf, deathOf, preparedOf}
 use Rattle.rates.proofs.PreparedTables.{same-table}
 use Rattle.study.specs.declared.Study.{Study}
 use Rattle.study.specs.declared.Answer.{Answer}
@@ -29,7 +29,7 @@ use Rattle.study.proofs.WithSpan.{answer}
 use Rattle.study.proofs.LentSums.{taken-passed, lent-adding}
 
 plain-added : (s : Study) (c : Claim) (rates : List ℕ) → addedWith Plain s c rates ≡ added s c rates
-unfolding addedWith addCheckWith shareWith added addCheck withClaim shareOf checkOf recoveryOf deathOf
+unfolding addedWith addCheckWith shareWith added addCheck withClaim shareOf tableCheckOf recoveryOf deathOf
 plain-added s c rates = refl
 
 module _ (s : Study) (c : Claim) (rates : List ℕ) where
@@ -38,7 +38,7 @@ module _ (s : Study) (c : Claim) (rates : List ℕ) where
   prepared-number =
       ap (λ (n : ℕ). windowCheck (s .window .first .0) (s .window .last .0) then claimCheck c then n then roomCheck s) (same-table rates .same-check (c .cell))
 
-  pub prepared-share : checkOf Plain rates (c .cell) ≡ 0 → shareWith Prepared (s .window) (preparedOf rates) c ≡ shareWith Plain (s .window) rates c
+  pub prepared-share : tableCheckOf Plain rates (c .cell) ≡ 0 → shareWith Prepared (s .window) (preparedOf rates) c ≡ shareWith Plain (s .window) rates c
   unfolding shareWith
   prepared-share e =
       ap₂ (λ (r d : ℕ → ℤ). recordSums r d (weight c) (monthRecords c (s .window .first .0) (s .window .last .0)))

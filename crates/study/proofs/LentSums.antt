@@ -20,7 +20,7 @@ use Rattle.claim_months.specs.declared.Claim.{Claim}
 use Rattle.claim_months.specs.Claim.{claimCheck}
 use Rattle.claim_months.specs.Windows.{windowCheck}
 use Rattle.rates.specs.declared.Kind.{Kind}
-use Rattle.rates.specs.Prepared.{checkOf}
+use Rattle.rates.specs.Prepared.{tableCheckOf}
 use Rattle.study.specs.declared.Study.{Study}
 use Rattle.study.specs.Sums.{columnAt, isCount, timesAt, each, plus, columnBound, inBounds, allInBounds, within}
 use Rattle.study.specs.Study.{hasRoom, roomCheck}
@@ -111,7 +111,7 @@ spare-kept n a b h z r =
 -- what a claim that is taken has passed
 pub record AllPassed (kind : Kind) (s : Study) (c : Claim) (table : List ℕ) : Type 0 where
   pub claim : claimCheck c ≡ 0
-  pub rates : checkOf kind table (c .cell) ≡ 0
+  pub rates : tableCheckOf kind table (c .cell) ≡ 0
   pub few : s .taken < most-claims
   pub sums : within (s .sums) ≡ true
 
@@ -121,7 +121,7 @@ module _ (kind : Kind) (s : Study) (c : Claim) (table : List ℕ) where
   taken-passed e =
       let w = then-passed (windowCheck (s .window .first .0) (s .window .last .0)) _ e in
       let k = then-passed (claimCheck c) _ (w .1) in
-      let r = then-passed (checkOf kind table (c .cell)) (roomCheck s) (k .1) in
+      let r = then-passed (tableCheckOf kind table (c .cell)) (roomCheck s) (k .1) in
       let few = ltb (s .taken) most-claims in
       let h = check-passed (few && within (s .sums)) refuse-full (omega tests) (r .1) in
       record {
@@ -135,7 +135,7 @@ module _ (kind : Kind) (s : Study) (c : Claim) (table : List ℕ) where
   same-check : (room : Bool) → room ≡ within (s .sums) → addCheckTold room kind s c table ≡ addCheckWith kind s c table
   unfolding addCheckTold addCheckWith roomCheck hasRoom
   same-check room e =
-      ap (λ (t : Bool). windowCheck (s .window .first .0) (s .window .last .0) then claimCheck c then checkOf kind table (c .cell) then check (ltb (s .taken) most-claims && t) refuse-full) e
+      ap (λ (t : Bool). windowCheck (s .window .first .0) (s .window .last .0) then claimCheck c then tableCheckOf kind table (c .cell) then check (ltb (s .taken) most-claims && t) refuse-full) e
 
   abbrev number : ℕ
   number = addCheckWith kind s c table

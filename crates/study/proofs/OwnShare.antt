@@ -13,7 +13,7 @@ use Rattle.claim_months.specs.declared.Window.{Window}
 use Rattle.claim_months.specs.Claim.{claimCheck, weight}
 use Rattle.claim_months.specs.Windows.{windowCheck}
 use Rattle.rates.specs.declared.Kind.{Kind}
-use Rattle.rates.specs.Prepared.{checkOf}
+use Rattle.rates.specs.Prepared.{tableCheckOf}
 use Rattle.study.specs.Sums.{none, within}
 use Rattle.study.specs.Study.{sumOver, studyOf}
 use Rattle.study.specs.PreparedAdding.{shareWith, lentStudy, addCheckTold, addedToLent}
@@ -30,7 +30,7 @@ module _ (kind : Kind) (c : Claim) (w : Window) (table : List ℕ) where
   -- check 9 passes, so the number is the claim's own
   own-check : addCheckTold true kind (lentStudy w 0 none) c table ≡ shareNumber kind c w table
   unfolding addCheckTold shareNumber
-  own-check = ap (λ (n : ℕ). windowCheck (w .first .0) (w .last .0) then claimCheck c then n) (then-zero (checkOf kind table (c .cell)))
+  own-check = ap (λ (n : ℕ). windowCheck (w .first .0) (w .last .0) then claimCheck c then n) (then-zero (tableCheckOf kind table (c .cell)))
 
   pub alone-number : addedToLent true kind table c (lentStudy w 0 none) .refused ≡ shareNumber kind c w table
   unfolding addedToLent

@@ -15,7 +15,7 @@ use Rattle.claim_months.specs.declared.Claim.{Claim}
 use Rattle.claim_months.specs.Claim.{claimCheck}
 use Rattle.claim_months.specs.Windows.{windowCheck}
 use Rattle.rates.specs.declared.Kind.the-variants.{Plain, Prepared}
-use Rattle.rates.specs.Prepared.{checkOf, recoveryOf, deathOf, preparedOf}
+use Rattle.rates.specs.Prepared.{tableCheckOf, recoveryOf, deathOf, preparedOf}
 use Rattle.rates.proofs.PreparedTables.{same-table}
 use Rattle.study.specs.declared.Study.{Study}
 use Rattle.study.specs.declared.Answer.{Answer}
@@ -27,7 +27,7 @@ use Rattle.study.specs.PreparedWithdrawing.{canWithdrawWith, withdrawChe
 use Rattle.study.proofs.EitherTable.{prepared-share}
 
 plain-withdrawn : (s : Study) (c : Claim) (rates : List ℕ) → withdrawnWith Plain s c rates ≡ withdrawn s c rates
-unfolding withdrawnWith withdrawCheckWith canWithdrawWith shareWith withdrawn withdrawCheck canWithdraw withoutClaim shareOf checkOf recoveryOf deathOf
+unfolding withdrawnWith withdrawCheckWith canWithdrawWith shareWith withdrawn withdrawCheck canWithdraw withoutClaim shareOf tableCheckOf recoveryOf deathOf
 plain-withdrawn s c rates = refl
 
 module _ (s : Study) (c : Claim) where
@@ -52,7 +52,7 @@ module _ (s : Study) (c : Claim) where
   prepared-withdrawn : (rates : List ℕ) → withdrawnWith Prepared s c (preparedOf rates) ≡ withdrawnWith Plain s c rates
   unfolding withdrawnWith withdrawCheckWith canWithdrawWith
   prepared-withdrawn rates =
-      let n = checkOf Plain rates (c .cell) in
+      let n = tableCheckOf Plain rates (c .cell) in
       let before : List ℤ = shareWith Prepared (s .window) (preparedOf rates) c in
       let after : List ℤ = shareWith Plain (s .window) rates c in
       ap (λ (k : ℕ). answerBy k before) (same-table rates .same-check (c .cell))

@@ -17,7 +17,8 @@ use Rattle.claim_months.specs.declared.MaybeSpan.the-variants.{Spanned, Refused
 use Rattle.claim_months.specs.Claim.{weight}
 use Rattle.claim_months.specs.Span.{spanIn}
 use Rattle.rates.specs.declared.Kind.{Kind}
-use Rattle.rates.specs.Prepared.{checkOf, recoveryOf, deathOf}
+use Rattle.rates.specs.Prepared.{tableCheckOf, recoveryOf, deathOf, partRecovery, partDeath}
+use Rattle.rates.proofs.Parts.{cellPart, cell-within, part-recovery, part-death}
 use Rattle.study.specs.declared.Study.{Study}
 use Rattle.study.specs.PreparedAdding.{guardedPlus, addedToLent}
 use Rattle.study.specs.Private.{monthsFigure, closingFigure, shareBy, spanShare, spanNumber, spanSums}
@@ -37,15 +38,15 @@ module _ (taken : ℕ) (room : Bool) (s : List ℤ) (kind : Kind) (rates : List 
   unfolding spanSums
   left n e h = (e, rw (ne-eqb number 0 (λ z. h (e ∙ z))))
 
-  pub rates-refused : (n : ℕ) → n ≡ checkOf kind rates cell → (n ≡ 0 → ⊥) → SpanAs n s
+  pub rates-refused : (n : ℕ) → n ≡ tableCheckOf kind rates cell → (n ≡ 0 → ⊥) → SpanAs n s
   unfolding spanNumber
-  rates-refused n e h = left n (e ∙ sym (then-fails (checkOf kind rates cell) _ (λ z. h (e ∙ z)))) h
+  rates-refused n e h = left n (e ∙ sym (then-fails (tableCheckOf kind rates cell) _ (λ z. h (e ∙ z)))) h
 
-  module _ (passed : checkOf kind rates cell ≡ 0) where
+  module _ (passed : tableCheckOf kind rates cell ≡ 0) where
     -- check 9 alone is left
     last : (t : Bool) → (ltb taken most-claims && room) ≡ t → number ≡ check t refuse-full
     unfolding spanNumber
-    last t e = then-next (checkOf kind rates cell) _ passed ∙ ap (λ (t : Bool). check t refuse-full) e
+    last t e = then-next (tableCheckOf kind rates cell) _ passed ∙ ap (λ (t : Bool). check t refuse-full) e
 
     span-full : (ltb taken most-claims && room) ≡ false → SpanAs refuse-full s
     span-full f = left refuse-full (sym (last false f)) (λ z. omega tests)
@@ -56,16 +57,18 @@ module _ (taken : ℕ) (room : Bool) (s : List ℤ) (kind : Kind) (rates : List 
     pub no-room : room ≡ false → SpanAs refuse-full s
     no-room e = span-full (ap (λ (t : Bool). ltb taken most-claims && t) e ∙ and-false (ltb taken most-claims))
 
-    -- the months are added first, then the closing
-    pub span-taken : taken < most-claims → room ≡ true → (a b : List ℤ)
-        → a ≡ guardedPlus s (shareBy weight (monthsFigure (recoveryOf kind rates cell) (deathOf kind rates cell) sp (sp .months)))
+    -- the months are added first, with the rates of the cell's part, then the closing
+    pub span-taken : taken < most-claims → room ≡ true → (part : List ℕ) (a b : List ℤ) → part ≡ cellPart rates cell
+        → a ≡ guardedPlus s (shareBy weight (monthsFigure (partRecovery kind part) (partDeath kind part) sp (sp .months)))
         → b ≡ guardedPlus a (shareBy weight (closingFigure sp)) → SpanAs 0 b
     unfolding spanSums spanShare
-    span-taken h e a b p q =
-        let n : number ≡ 0 = last true (rw (lt-ltb taken most-claims h, e)) in (
+    span-taken h e part a b f p q =
+        let n : number ≡ 0 = last true (rw (lt-ltb taken most-claims h, e)) in
+        let all = cell-within kind rates cell passed in
+        let p′ = rw (f, part-recovery rates cell all kind, part-death rates cell all kind) at p in (
           sym n,
           rw n
-              (q ∙ ap (λ (x : List ℤ). guardedPlus x (shareBy weight (closingFigure sp))) p ∙ span-added (recoveryOf kind rates cell) (deathOf kind rates cell) s weight sp),
+              (q ∙ ap (λ (x : List ℤ). guardedPlus x (shareBy weight (closingFigure sp))) p′ ∙ span-added (recoveryOf kind rates cell) (deathOf kind rates cell) s weight sp),
         )
 
 -- adding a claim to lent sums: with its span, and without one

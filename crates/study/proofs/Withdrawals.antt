@@ -21,7 +21,7 @@ use Rattle.claim_months.specs.declared.Window.{Window}
 use Rattle.claim_months.specs.Claim.{claimCheck, weight}
 use Rattle.claim_months.specs.Windows.{windowCheck}
 use Rattle.rates.specs.declared.Kind.{Kind}
-use Rattle.rates.specs.Prepared.{checkOf}
+use Rattle.rates.specs.Prepared.{tableCheckOf}
 use Rattle.study.specs.declared.Study.{Study}
 use Rattle.study.specs.declared.Answer.{Answer}
 use Rattle.study.specs.Sums.{columnAt, isCount, timesAt, none, minus, within}
@@ -143,8 +143,8 @@ module _ (kind : Kind) (s : Study) (c : Claim) (table : List ℕ) (n : ℕ) (x :
       let f = windowCheck (s .window .first .0) (s .window .last .0) in
       let z = lastChecks (s .taken) (s .sums) share in
       sym
-      (ap (λ (n : ℕ). n then z) own-number ∙ then-assoc f (claimCheck c then checkOf kind table (c .cell)) z
-      ∙ ap (λ (n : ℕ). f then n) (then-assoc (claimCheck c) (checkOf kind table (c .cell)) z))
+      (ap (λ (n : ℕ). n then z) own-number ∙ then-assoc f (claimCheck c then tableCheckOf kind table (c .cell)) z
+      ∙ ap (λ (n : ℕ). f then n) (then-assoc (claimCheck c) (tableCheckOf kind table (c .cell)) z))
 
   pub unfit-answer : (n ≡ 0 → ⊥) → _≡_ {A = Answer} (record { refused = n; study = s }) (withdrawnWith kind s c table)
   unfolding withdrawnWith

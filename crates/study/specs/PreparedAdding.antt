@@ -18,7 +18,7 @@ use Rattle.claim_months.specs.Exposure.{monthRecords}
 use Rattle.claim_months.specs.Windows.{windowCheck}
 use Rattle.rates.specs.declared.Kind.{Kind}
 use Rattle.rates.specs.declared.Kind.the-variants.{Plain, Prepared}
-use Rattle.rates.specs.Prepared.{checkOf, recoveryOf, deathOf, preparedOf}
+use Rattle.rates.specs.Prepared.{tableCheckOf, recoveryOf, deathOf, preparedOf}
 use Rattle.study.specs.declared.Study.{Study}
 use Rattle.study.specs.declared.Answer.{Answer}
 use Rattle.study.specs.Sums.{isCount, timesAt, plus, allInBounds, within}
@@ -34,7 +34,7 @@ unfoldable pub addCheckWith : Kind → Study → Claim → List ℕ → ℕ
 addCheckWith kind s c table =
     windowCheck (s .window .first .0) (s .window .last .0)
     then claimCheck c
-    then checkOf kind table (c .cell)
+    then tableCheckOf kind table (c .cell)
     then roomCheck s
 
 -- adding, on every list of numbers as a table
@@ -79,7 +79,7 @@ unfoldable pub addCheckTold : Bool → Kind → Study → Claim → List ℕ →
 addCheckTold room kind s c table =
     windowCheck (s .window .first .0) (s .window .last .0)
     then claimCheck c
-    then checkOf kind table (c .cell)
+    then tableCheckOf kind table (c .cell)
     then check (ltb (s .taken) most-claims && room) refuse-full
 
 -- adding to a study whose sums are lent, told whether they are within their bounds

@@ -12,7 +12,7 @@ use Rattle.claim_months.specs.Claim.{claimCheck}
 use Rattle.claim_months.specs.Windows.{windowCheck}
 use Rattle.rates.specs.declared.Kind.{Kind}
 use Rattle.rates.specs.declared.Kind.the-variants.{Plain, Prepared}
-use Rattle.rates.specs.Prepared.{checkOf, preparedOf}
+use Rattle.rates.specs.Prepared.{tableCheckOf, preparedOf}
 use Rattle.study.specs.declared.Study.{Study}
 use Rattle.study.specs.declared.Answer.{Answer}
 use Rattle.study.specs.Sums.{minus}
@@ -26,7 +26,7 @@ unfoldable pub withdrawCheckWith : Kind → Study → Claim → List ℕ → ℕ
 withdrawCheckWith kind s c table =
     windowCheck (s .window .first .0) (s .window .last .0)
     then claimCheck c
-    then checkOf kind table (c .cell)
+    then tableCheckOf kind table (c .cell)
     then check (withdrawRoom s) refuse-full
     then check (canWithdrawWith kind s c table) refuse-withdrawal
 

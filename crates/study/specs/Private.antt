@@ -16,7 +16,7 @@ use Rattle.claim_months.specs.Claim.{claimCheck}
 use Rattle.claim_months.specs.Windows.{windowCheck}
 use Rattle.claim_months.specs.Span.{spanWeighted, spanClosing}
 use Rattle.rates.specs.declared.Kind.{Kind}
-use Rattle.rates.specs.Prepared.{checkOf, recoveryOf, deathOf}
+use Rattle.rates.specs.Prepared.{tableCheckOf, recoveryOf, deathOf}
 use Rattle.study.specs.declared.sums.Bounds.{Bounds}
 use Rattle.study.specs.Sums.{groupAt, columnAt, isCount, timesAt, inBounds, within}
 use Rattle.study.specs.Study.{inGroup, groupWeight}
@@ -66,7 +66,7 @@ oneFigure g₀ column₀ x g column = pick (eqb g g₀ && eqb column column₀) 
 -- adding a sound claim's span to sums, told whether they are within their bounds: the number of the first of the checks 6 to 9 that fails, or 0,
 -- and the sums afterwards
 unfoldable pub spanNumber : ℕ → Bool → Kind → List ℕ → ℕ → ℕ
-spanNumber taken room kind rates cell = checkOf kind rates cell then check (ltb taken most-claims && room) refuse-full
+spanNumber taken room kind rates cell = tableCheckOf kind rates cell then check (ltb taken most-claims && room) refuse-full
 
 unfoldable pub spanSums : ℕ → Bool → List ℤ → Kind → List ℕ → ℕ → Span → ℕ → List ℤ
 spanSums taken room s kind rates cell sp n =
@@ -74,7 +74,7 @@ spanSums taken room s kind rates cell sp n =
 
 -- the number of the first of the checks 1 to 8 and 16 that a claim fails in a window with a table, or 0
 unfoldable pub shareNumber : Kind → Claim → Window → List ℕ → ℕ
-shareNumber kind c w table = windowCheck (w .first .0) (w .last .0) then claimCheck c then checkOf kind table (c .cell)
+shareNumber kind c w table = windowCheck (w .first .0) (w .last .0) then claimCheck c then tableCheckOf kind table (c .cell)
 
 -- a share's numbers are small beside the bounds of 64 bits
 unfoldable pub smallShare : List ℤ → Bool

@@ -12,6 +12,7 @@ use crate::Study;
 use crate::share::add_closing;
 use crate::share::add_months;
 use crate::sums::has_room;
+use basics::limits::CELL_NUMBERS;
 use basics::limits::MOST_CLAIMS;
 use basics::refusal;
 use claim_months::Claim;
@@ -46,7 +47,9 @@ fn add_span(
         return refusal::FULL;
     }
     if room {
-        add_months(kind, table, cell, span, weight, sums);
+        let from = cell.0 as usize * CELL_NUMBERS;
+        let to = from + CELL_NUMBERS;
+        add_months(kind, &table[from..to], span, weight, sums);
         add_closing(span, weight, sums);
         return 0;
     }

@@ -6,7 +6,7 @@ ghost use denote.Ref.{now};
 ghost use Rattle.basics.specs.Limits.{most-benefit};
 ghost use Rattle.claim_months.specs.Span.{spanU, bandSum, SpanBounds};
 ghost use Rattle.rates.specs.Rates.{groupLast};
-ghost use Rattle.rates.specs.Prepared.{recoveryOf, deathOf};
+ghost use Rattle.rates.specs.Prepared.{partRecovery, partDeath};
 ghost use Rattle.study.specs.PreparedAdding.{guardedPlus};
 ghost use Rattle.study.specs.Private.{monthsFigure, closingFigure, shareBy};
 use crate::sums::DEATHS;
@@ -15,63 +15,57 @@ use crate::sums::THIRTIETHS;
 use crate::sums::raise_both;
 use basics::Duration;
 use claim_months::Span;
-use rates::Cell;
+use claim_months::Thirtieths;
 use rates::Kind;
 use rates::RateSums;
-use rates::prepared::rate_sums;
+use rates::prepared::rates_over;
 
 // A duration's rates times thirtieths.
-fn times_rates(
-    kind: Kind,
-    table: &[u32],
-    cell: Cell,
-    duration: Duration,
-    thirtieths: u32,
-) -> RateSums
+fn times_rates(kind: Kind, part: &[u32], duration: Duration, thirtieths: Thirtieths) -> RateSums
     requires { ⌜ 2 ≤ duration .0 ⌝ }
-    requires { ⌜ thirtieths ≤ 30 ⌝ }
-    ensures { λ r. ⌜ r .recoveries ≡ pos thirtieths *ℤ recoveryOf kind (now (table .entry)) (cell .0) (duration .0) ⌝ }
-    ensures { λ r. ⌜ r .deaths ≡ pos thirtieths *ℤ deathOf kind (now (table .entry)) (cell .0) (duration .0) ⌝ }
+    requires { ⌜ thirtieths .0 ≤ 30 ⌝ }
+    ensures { λ r. ⌜ r .recoveries ≡ pos (thirtieths .0) *ℤ partRecovery kind (now (part .entry)) (duration .0) ⌝ }
+    ensures { λ r. ⌜ r .deaths ≡ pos (thirtieths .0) *ℤ partDeath kind (now (part .entry)) (duration .0) ⌝ }
     ensures { λ r. ⌜ natAbs (r .recoveries) ≤ 128849018850 ⌝ }
     ensures { λ r. ⌜ natAbs (r .deaths) ≤ 128849018850 ⌝ }
 {
-    if thirtieths == 0 {
+    let times = thirtieths.0;
+    if times == 0 {
         return RateSums {
             recoveries: 0,
             deaths: 0,
         };
     }
-    let rates = rate_sums(kind, table, cell, duration, 1);
+    let rates = rates_over(kind, part, duration, 1);
     RateSums {
-        recoveries: thirtieths as i64 * rates.recoveries,
-        deaths: thirtieths as i64 * rates.deaths,
+        recoveries: times as i64 * rates.recoveries,
+        deaths: times as i64 * rates.deaths,
     }
 }
 
 // The expected sums of months from a duration on: 30 thirtieths each, less those that the first and the last lack.
 fn band_rates(
     kind: Kind,
-    table: &[u32],
-    cell: Cell,
+    part: &[u32],
     first: Duration,
     months: u32,
-    before: u32,
-    short: u32,
+    before: Thirtieths,
+    short: Thirtieths,
 ) -> RateSums
     requires { ⌜ 2 ≤ first .0 ⌝ }
     requires { ⌜ first .0 ≤ 6000 ⌝ }
     requires { ⌜ 0 < months ⌝ }
     requires { ⌜ months ≤ 1800 ⌝ }
-    requires { ⌜ before ≤ 30 ⌝ }
-    requires { ⌜ short ≤ 30 ⌝ }
-    ensures { λ r. ⌜ r .recoveries ≡ bandSum (recoveryOf kind (now (table .entry)) (cell .0)) (first .0) months before short ⌝ }
-    ensures { λ r. ⌜ r .deaths ≡ bandSum (deathOf kind (now (table .entry)) (cell .0)) (first .0) months before short ⌝ }
+    requires { ⌜ before .0 ≤ 30 ⌝ }
+    requires { ⌜ short .0 ≤ 30 ⌝ }
+    ensures { λ r. ⌜ r .recoveries ≡ bandSum (partRecovery kind (now (part .entry))) (first .0) months (before .0) (short .0) ⌝ }
+    ensures { λ r. ⌜ r .deaths ≡ bandSum (partDeath kind (now (part .entry))) (first .0) months (before .0) (short .0) ⌝ }
     ensures { λ r. ⌜ natAbs (r .recoveries) ≤ 400000000000 * months ⌝ }
     ensures { λ r. ⌜ natAbs (r .deaths) ≤ 400000000000 * months ⌝ }
 {
-    let all = rate_sums(kind, table, cell, first, months as u16);
-    let front = times_rates(kind, table, cell, first, before);
-    let back = times_rates(kind, table, cell, Duration(first.0 + (months - 1)), short);
+    let all = rates_over(kind, part, first, months as u16);
+    let front = times_rates(kind, part, first, before);
+    let back = times_rates(kind, part, Duration(first.0 + (months - 1)), short);
     RateSums {
         recoveries: 30 * all.recoveries - front.recoveries - back.recoveries,
         deaths: 30 * all.deaths - front.deaths - back.deaths,
@@ -79,73 +73,66 @@ fn band_rates(
 }
 
 // Their thirtieths.
-fn band_thirtieths(months: u32, before: u32, short: u32) -> i64
+fn band_thirtieths(months: u32, before: Thirtieths, short: Thirtieths) -> i64
     requires { ⌜ 0 < months ⌝ }
     requires { ⌜ months ≤ 1800 ⌝ }
-    requires { ⌜ before ≤ 30 ⌝ }
-    requires { ⌜ short ≤ 30 ⌝ }
-    ensures { λ r. ⌜ r ≡ bandSum (λ d. pos 1) 0 months before short ⌝ }
+    requires { ⌜ before .0 ≤ 30 ⌝ }
+    requires { ⌜ short .0 ≤ 30 ⌝ }
+    ensures { λ r. ⌜ r ≡ bandSum (λ d. pos 1) 0 months (before .0) (short .0) ⌝ }
     ensures { λ r. ⌜ natAbs r ≤ 400000000000 * months ⌝ }
 {
-    30 * months as i64 - before as i64 - short as i64
+    30 * months as i64 - before.0 as i64 - short.0 as i64
 }
 
 // The last duration of a band: that of its first duration's group, or the span's if that is earlier.
-fn band_end(first: u32, last: u32) -> u32
-    ensures { λ r. ⌜ r ≡ min (groupLast first) last ⌝ }
+fn band_end(first: Duration, last: Duration) -> Duration
+    ensures { λ r. ⌜ r .0 ≡ min (groupLast (first .0)) (last .0) ⌝ }
 {
-    let end = rates::group_last(Duration(first)).0;
-    if last < end {
+    let end = rates::group_last(first);
+    if last.0 < end.0 {
         return last;
     }
     end
 }
 
 // What U of a band's last month is short of 30: only the span's last month can lack something.
-fn band_short(span: Span, end: u32, last: u32) -> u32
+fn band_short(span: Span, end: Duration, last: Duration) -> Thirtieths
     requires { ⌜ SpanBounds span ⌝ }
-    requires { ⌜ span .first .0 ≤ end ⌝ }
-    requires { ⌜ last + 1 ≡ span .first .0 + span .months ⌝ }
-    ensures { λ r. ⌜ r ≡ 30 - spanU span (end - span .first .0) ⌝ }
+    requires { ⌜ span .first .0 ≤ end .0 ⌝ }
+    requires { ⌜ last .0 + 1 ≡ span .first .0 + span .months ⌝ }
+    ensures { λ r. ⌜ r .0 ≡ 30 - spanU span (end .0 - span .first .0) ⌝ }
 {
-    if end == last {
-        return 30 - span.through.0;
+    if end.0 == last.0 {
+        return Thirtieths(30 - span.through.0);
     }
-    0
+    Thirtieths(0)
 }
 
 // Adds a span's months to the sums of their groups: one step for each group that the span touches.
-pub(crate) fn add_months(
-    kind: Kind,
-    table: &[u32],
-    cell: Cell,
-    span: Span,
-    weight: u8,
-    sums: &mut [i64; 80],
-)
+pub(crate) fn add_months(kind: Kind, part: &[u32], span: Span, weight: u8, sums: &mut [i64; 80])
     requires { ⌜ SpanBounds span ⌝ }
     requires { ⌜ weight ≤ most-benefit ⌝ }
-    ensures { λ _. ⌜ now (sums .exit) ≡ guardedPlus (now (sums .entry)) (shareBy weight (monthsFigure (recoveryOf kind (now (table .entry)) (cell .0)) (deathOf kind (now (table .entry)) (cell .0)) span (span .months))) ⌝ }
+    ensures { λ _. ⌜ now (sums .exit) ≡ guardedPlus (now (sums .entry)) (shareBy weight (monthsFigure (partRecovery kind (now (part .entry))) (partDeath kind (now (part .entry))) span (span .months))) ⌝ }
 {
     let list = &mut sums[..];
     if span.months == 0 {
         return;
     }
-    let last = span.first.0 + (span.months - 1);
-    let mut first = span.first.0;
-    let mut before = span.before.0;
-    while first <= last {
+    let last = Duration(span.first.0 + (span.months - 1));
+    let mut first = span.first;
+    let mut before = span.before;
+    while first.0 <= last.0 {
         let end = band_end(first, last);
         let short = band_short(span, end, last);
-        let months = end - first + 1;
-        let group = rates::group(Duration(first));
-        let expected = band_rates(kind, table, cell, Duration(first), months, before, short);
+        let months = end.0 - first.0 + 1;
+        let group = rates::group(first);
+        let expected = band_rates(kind, part, first, months, before, short);
         let exposed = band_thirtieths(months, before, short);
         raise_both(list, group, THIRTIETHS, exposed, weight);
         raise_both(list, group, RECOVERIES, expected.recoveries, weight);
         raise_both(list, group, DEATHS, expected.deaths, weight);
-        first = end + 1;
-        before = 0;
+        first = Duration(end.0 + 1);
+        before = Thirtieths(0);
     }
 }
 

@@ -8,14 +8,14 @@ use Rattle.rates.proofs.above.Tie as tie
 returns : tie.Need-returns
 unfolding oneAbove
 returns c =
-    let args = c .before .args in
-    (simp (lt-ltb (args .bound) (args .months) (omega arith)), omega arith)
+    let args = c .before .before .before .args in
+    (simp (lt-ltb (args .bound .0) (args .duration .0) (omega arith)), omega arith)
 
 returns-2 : tie.Need-returns-2
 unfolding oneAbove
 returns-2 c =
-    let args = c .before .args in
-    (simp (le-ltb (args .bound) (args .months) (omega arith)), omega arith)
+    let args = c .before .before .before .args in
+    (simp (le-ltb (args .bound .0) (args .duration .0) (omega arith)), omega arith)
 
 pub above-spec : {M : Type 1} → statement M
 above-spec = tie.close (tie.spec returns returns-2)

@@ -1,12 +1,12 @@
 -- `rates::prepared::check_prepared` meets its contract: each way out has the definition's tests that lead there. Assumes nothing.
-use Prim.Native.Nat.{ℕ, _-_, _/_}
+use Prim.Native.Nat.{ℕ, _-_, _*_, _/_, _<_}
 use mathlib.Core.Path.{_≡_}
 use mathlib.Core.Bool.{true, false}
 use mathlib.Core.List.{List}
 use native.Mathlib.Omega.{arith}
 use borrow.Author.Needs.{needs}
 use borrow.Author.Tests.{lt-ltb, le-ltb, le-leb, lt-leb, not-true, not-false}
-use lib.ListN.{length}
+use lib.ListN.{length, getD}
 use lib.Dec.{leb}
 use Rattle.basics.specs.Pick.{pick}
 use Rattle.basics.specs.Checks.{_then_}
@@ -37,24 +37,32 @@ returns-2 c =
     let cell : ℕ = c .before .before .before .before .before .args .cell .0 in
     simp (passed (c .before .before), numbers-length, le-ltb cell ((length table - 1) / 958) (omega arith))
 
--- past the checks 6 and 7, the cell's first number decides
-left-to-number :
-    (c : tie.After-number-at)
-    → preparedCheck (c .before .before .before .before .before .before .before .args .table .now) (c .before .before .before .before .before .before .before .args .cell .0)
-    ≡ pick (leb (c .number-at .result) 1000000) 0 8
-unfolding preparedCheck _then_ cells
-left-to-number c =
-    let table : List ℕ = c .before .before .before .before .before .before .before .args .table .now in
-    let cell : ℕ = c .before .before .before .before .before .before .before .args .cell .0 in
-    simp (passed (c .before .before .before .before), numbers-length, lt-ltb cell ((length table - 1) / 958) (omega arith), c .number-at .ensures)
+-- past the checks 6 and 7 the table has the cell's first number, which decides
+module _ (c : tie.After-shared-slice-known2) where
+  abbrev table : List ℕ
+  table = c .before .before .before .before .before .before .before .args .table .now
+
+  abbrev cell : ℕ
+  cell = c .before .before .before .before .before .before .before .args .cell .0
+
+  is-marked : marked table 1 ≡ true
+  is-marked = passed (c .before .before .before .before)
+
+  inside : cell * 958 < length table
+  inside = omega (arith, sound-length (length table - 1) (marked-sound table 1 is-marked))
+
+  left-to-number : preparedCheck table cell ≡ pick (leb (getD table (cell * 958) 0) 1000000) 0 8
+  unfolding preparedCheck _then_ cells
+  left-to-number = simp (is-marked, numbers-length, lt-ltb cell ((length table - 1) / 958) (omega arith))
 
 returns-3 : tie.Need-returns-3
-returns-3 c = simp (left-to-number (c .before), lt-leb (c .before .number-at .result) 1000000 (omega arith))
+returns-3 c = let p = c .before in simp (left-to-number p, lt-leb (getD (table p) (cell p * 958) 0) 1000000 (omega arith))
 
 returns-4 : tie.Need-returns-4
-returns-4 c = simp (left-to-number (c .before), le-leb (c .before .number-at .result) 1000000 (omega arith))
+returns-4 c = let p = c .before in simp (left-to-number p, le-leb (getD (table p) (cell p * 958) 0) 1000000 (omega arith))
 
 pub check-prepared-spec : {M : Type 1} → statement M
 check-prepared-spec =
     tie.close
-    (tie.spec (λ c κs. search needs) returns (λ c. search needs) sub-if2 returns-2 (λ c. search needs) (λ c. search needs) (λ c κs. search needs) returns-3 returns-4)
+    (tie.spec (λ c κs. search needs) returns (λ c. search needs) sub-if2 returns-2 (λ c. search needs) (λ c. search needs) (λ c. omega arith)
+    inside returns-3 returns-4)

@@ -1,5 +1,4 @@
 -- `rates::prepared::difference` meets its contract. Assumes nothing.
-use mathlib.Core.Path.{refl}
 use lib.IntN.{pos, _-ℤ_}
 use native.Mathlib.Omega.{arith}
 use borrow.Author.Needs.{needs}
@@ -15,9 +14,7 @@ sub-result : tie.Need-sub-result
 sub-result c = result-fits _-ℤ_ (pos (c .args .number)) (pos (c .args .before)) (omega arith) (omega arith) (small c)
 
 returns : tie.Need-returns
-returns c =
-    rw (result-is _-ℤ_ (pos (c .args .number)) (pos (c .args .before)) (omega arith) (omega arith) (small c))
-    (refl, difference-size (c .args .number) (c .args .before) (omega arith) (omega arith))
+returns c = result-is _-ℤ_ (pos (c .args .number)) (pos (c .args .before)) (omega arith) (omega arith) (small c)
 
 pub difference-spec : {M : Type 1} → statement M
 difference-spec = tie.close (tie.spec (λ c. search needs) (λ c. search needs) sub-result returns)

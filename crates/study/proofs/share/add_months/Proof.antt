@@ -14,7 +14,7 @@ use Rattle.basics.proofs.Signed.{read-back}
 use Rattle.claim_months.specs.declared.Span.{Span}
 use Rattle.claim_months.specs.Span.{spanB, SpanBounds}
 use Rattle.claim_months.proofs.Bands.{band-ones, span-B-high}
-use Rattle.rates.specs.Prepared.{recoveryOf, deathOf}
+use Rattle.rates.specs.Prepared.{partRecovery, partDeath}
 use Rattle.rates.specs.Rates.{groupOf}
 use Rattle.rates.proofs.Laws.{group-low, group-high}
 use Rattle.study.specs.PreparedAdding.{guardedPlus}
@@ -25,19 +25,20 @@ use Rattle.study.proofs.share.add_months.Statement.{statement}
 use Rattle.study.proofs.share.add_months.Tie as tie
 
 abbrev Inv-loop : tie.InvT-loop
-Inv-loop kind table cell span weight list₀ last first₀ before₀ list first before =
-    let from = first - span .first .0 in
-    (span .first .0 ≤ first) × (first ≤ span .first .0 + span .months) × (before ≡ spanB span from) × Before span from
-    × (list ≡ guardedPlus list₀ (shareBy weight (monthsFigure (recoveryOf kind table (cell .0)) (deathOf kind table (cell .0)) span from)))
+Inv-loop kind part span weight list₀ last first₀ before₀ list first before =
+    let from = first .0 - span .first .0 in
+    (span .first .0 ≤ first .0) × (first .0 ≤ span .first .0 + span .months) × (before .0 ≡ spanB span from) × Before span from
+    × (list ≡ guardedPlus list₀ (shareBy weight (monthsFigure (partRecovery kind part) (partDeath kind part) span from)))
+    × (last .0 + 1 ≡ span .first .0 + span .months)
 
 abbrev μ-loop : tie.MeasureT-loop
-μ-loop kind table cell span weight list₀ last first₀ before₀ list first before = span .first .0 + span .months - first
+μ-loop kind part span weight list₀ last first₀ before₀ list first before = span .first .0 + span .months - first .0
 
 -- no months added
 none-added : (m : tie.After-list Inv-loop μ-loop) (n : ℕ) → n ≡ 0 → let a = m .before .before .args in
     a .sums .now
     ≡ guardedPlus (a .sums .now)
-    (shareBy (a .weight) (monthsFigure (recoveryOf (a .kind) (a .table .now) (a .cell .0)) (deathOf (a .kind) (a .table .now) (a .cell .0)) (a .span) n))
+    (shareBy (a .weight) (monthsFigure (partRecovery (a .kind) (a .part .now)) (partDeath (a .kind) (a .part .now)) (a .span) n))
 none-added m n e =
     let a = m .before .before .args in
     none-raised (a .weight) (a .sums .now) _ (m .list .given .0 .1) (no-months _ _ (a .span) n e)
@@ -45,12 +46,12 @@ none-added m n e =
 returns : tie.Need-returns Inv-loop μ-loop
 returns c = none-added (c .before .before) _ (omega arith)
 
-add-last : tie.Need-add-last Inv-loop μ-loop
+add-last : tie.Need-add-t19 Inv-loop μ-loop
 add-last c = let b = c .before .before .before .before .before .before .pre .0 in omega (arith, b .first-high, b .months-high)
 
 loop-holds : tie.Need-loop-holds Inv-loop μ-loop
 loop-holds c =
-    let m = c .before .before .before .before in
+    let m = c .before .before .before .before .before .before in
     let sp = m .before .before .args .span in
     let e : sp .first .0 - sp .first .0 ≡ 0 = omega arith in (
       omega arith,
@@ -58,12 +59,16 @@ loop-holds c =
       B-first sp,
       before-none sp _ e,
       none-added m _ e,
+      omega arith,
     )
 
 -- the band that is added: at least a month, all of them the span's
 module _ (m : tie.After-band-end Inv-loop μ-loop) where
+  abbrev here : tie.At-loop Inv-loop μ-loop
+  here = m .before .before .before .before
+
   abbrev origin : tie.Start Inv-loop μ-loop
-  origin = m .before .before .before .before .before .before .before .before .before
+  origin = here .before .before .before .before .before .before .before .before .before
 
   abbrev span : Span
   span = origin .args .span
@@ -72,16 +77,16 @@ module _ (m : tie.After-band-end Inv-loop μ-loop) where
   bounds = origin .pre .0
 
   abbrev start : ℕ
-  start = m .before .before .loop .first
+  start = here .loop .first .0
 
   abbrev end : ℕ
-  end = m .band-end .result
+  end = m .band-end .result .0
 
   low : span .first .0 ≤ start
-  low = m .before .before .loop .inv .0
+  low = here .loop .inv .0
 
   inside : start < span .first .0 + span .months
-  inside = omega arith
+  inside = omega (arith, m .before .if2 .taken, here .loop .inv .5)
 
   some : start ≤ end
   some = end-low span bounds start end low inside (m .band-end .ensures)
@@ -93,26 +98,26 @@ module _ (m : tie.After-band-end Inv-loop μ-loop) where
   short-span = omega (arith, low, some, ends, bounds .months-high)
 
 band-short-requires : tie.Need-band-short-requires Inv-loop μ-loop
-band-short-requires c κs = (bounds c, (omega (arith, low c, some c), omega arith))
+band-short-requires c κs = (bounds c, (omega (arith, low c, some c), here c .loop .inv .5))
 
 sub-months : tie.Need-sub-months Inv-loop μ-loop
-sub-months c = some (c .before)
+sub-months c = some (c .before .before .before)
 
 add-months : tie.Need-add-months Inv-loop μ-loop
-add-months c = omega (arith, short-span (c .before))
+add-months c = omega (arith, short-span (c .before .before .before))
 
 -- what the bands' functions ask
 module _ (c : tie.After-band-short Inv-loop μ-loop) where
-  limits : (c .before .before .before .loop .before ≤ 30) × (c .band-short .result ≤ 30)
-  limits =
-      (rw (c .before .before .before .loop .inv .2) (span-B-high (span (c .before)) (bounds (c .before)) _), omega (arith, c .band-short .ensures))
+  limits : (here (c .before) .loop .before .0 ≤ 30) × (c .band-short .result .0 ≤ 30)
+  limits = (rw (here (c .before) .loop .inv .2) (span-B-high (span (c .before)) (bounds (c .before)) _), omega (arith, c .band-short .ensures))
 
 band-rates-requires : tie.Need-band-rates-requires Inv-loop μ-loop
 band-rates-requires c κs =
-    let m = c .before .before in
+    let u = c .before .before .before in
+    let m = u .before in
     let b = bounds m in
     let two : 2 ≤ span m .first .0 = b .first-low (omega (arith, low m, inside m)) in
-    omega (arith, low m, inside m, short-span m, b .first-high, b .months-high, limits (c .before))
+    omega (arith, low m, inside m, short-span m, b .first-high, b .months-high, limits u)
 
 -- where the band's amounts are known, seen from the calls that raise each column and from the end of the loop's body
 abbrev first-call : tie.After-raise-both-arg Inv-loop μ-loop → tie.After-band-thirtieths Inv-loop μ-loop
@@ -128,11 +133,11 @@ abbrev body : tie.After-list4 Inv-loop μ-loop → tie.After-band-thirtieths Inv
 body c = third-call (c .before .before)
 
 abbrev band : tie.After-band-thirtieths Inv-loop μ-loop → tie.After-band-end Inv-loop μ-loop
-band c = c .before .before .before .before
+band c = c .before .before .before .before .before .before
 
 band-thirtieths-requires : tie.Need-band-thirtieths-requires Inv-loop μ-loop
 band-thirtieths-requires c κs =
-    let u = c .before .before in
+    let u = c .before .before .before .before in
     omega (arith, short-span (u .before), limits u)
 
 raised-length : (l a b : List ℤ) → l ≡ guardedPlus a b → Shaped l
@@ -160,7 +165,7 @@ module _ (c : tie.After-band-thirtieths Inv-loop μ-loop) where
         → Shaped l × ((1 ≤ group) × ((group ≤ 5) × ((column < 8) × ((natAbs (back x) ≤ 1000000000000000) × (weight ≤ 200)))))
     asked l a b e column h =
         let g : group ≡ groupOf (start m) = c .before .before .group .ensures in
-        (raised-length l a b e, (omega (arith, group-low (start m)), (omega (arith, group-high (start m)), (h, (rw read (omega (arith, short-span m)), omega arith)))))
+        (raised-length l a b e, (omega (arith, group-low (start m)), (omega (arith, group-high (start m)), (h, (rw read (omega (arith, short-span m)), origin m .pre .1)))))
 
     raised : (l l′ : List ℤ) (column : ℕ) → l′ ≡ guardedPlus l (shareBy weight (oneFigure group column (back x)))
         → l′ ≡ guardedPlus l (shareBy weight (oneFigure group column x))
@@ -169,7 +174,7 @@ module _ (c : tie.After-band-thirtieths Inv-loop μ-loop) where
 raise-both-requires : tie.Need-raise-both-requires Inv-loop μ-loop
 raise-both-requires c κs =
     let t = first-call c in
-    asked t (t .band-thirtieths .result) (t .band-thirtieths .ensures .1) _ _ _ (band t .before .before .loop .inv .4) 0 (omega arith)
+    asked t (t .band-thirtieths .result) (t .band-thirtieths .ensures .1) _ _ _ (here (band t) .loop .inv .4) 0 (omega arith)
 
 raise-both-requires-2 : tie.Need-raise-both-requires-2 Inv-loop μ-loop
 raise-both-requires-2 c κs =
@@ -183,39 +188,42 @@ raise-both-requires-3 c κs =
     let r = t .before .band-rates in
     asked t (r .result .deaths) (r .ensures .1 .1 .1) _ _ _ (c .before .before .before .raise-both2 .ensures) 7 (omega arith)
 
-add-first : tie.Need-add-first Inv-loop μ-loop
-add-first c = let m = band (body c) in omega (arith, ends m, bounds m .first-high, bounds m .months-high)
+add-first : tie.Need-add-t21 Inv-loop μ-loop
+add-first c = let m = band (body (c .before)) in omega (arith, ends m, bounds m .first-high, bounds m .months-high)
 
 loop-less : tie.Need-loop-less Inv-loop μ-loop
-loop-less c = let m = band (body c) in omega (arith, some m, ends m)
+loop-less c = let m = band (body (c .before)) in omega (arith, some m, ends m)
 
 loop-again : tie.Need-loop-again Inv-loop μ-loop
 loop-again c =
-    let t = body c in
-    let m = band t in
-    let i = m .before .before .loop .inv in
-    let r = t .before .band-rates in
-    let third = c .before in
+    let third = c .before .before in
     let second = third .before .before .before .before in
     let first = second .before .before .before .before in
+    let t = body (c .before) in
+    let m = band t in
+    let i = here m .loop .inv in
+    let r = t .before .band-rates in
     let exposed = t .band-thirtieths in (
       omega (arith, low m, some m),
       omega (arith, ends m),
       B-later (span m) _ _ (omega arith) (omega (arith, low m, some m)),
       before-step (span m) (bounds m) (start m) (end m) (low m) (inside m) (m .band-end .ensures) (i .3),
-      band-raised (span m) (bounds m) (start m) (end m) (low m) (inside m) (m .band-end .ensures) _ _ _ _ (i .2) (t .before .before .before .band-short .ensures) (i .3)
+      band-raised (span m) (bounds m) (start m) (end m) (low m) (inside m) (m .band-end .ensures) _ _ _ _ (i .2)
+          (t .before .before .before .before .before .band-short .ensures) (i .3)
           (group t) (t .before .before .group .ensures) (weight t) (exposed .result) (r .result .recoveries) (r .result .deaths)
           (exposed .ensures .0 ∙ band-ones 0 _ _ _ ∙ sym (band-ones (start m) _ _ _)) (r .ensures .0) (r .ensures .1 .0) _ _ _ _ _ (i .4)
           (raised t (exposed .result) (exposed .ensures .1) _ _ 0 (first .raise-both .ensures))
           (raised t (r .result .recoveries) (r .ensures .1 .1 .0) _ _ 6 (second .raise-both2 .ensures))
           (raised t (r .result .deaths) (r .ensures .1 .1 .1) _ _ 7 (third .raise-both3 .ensures)),
+      i .5,
     )
 
 returns-2 : tie.Need-returns-2 Inv-loop μ-loop
 returns-2 c =
-    let sp = c .before .before .before .before .before .before .before .before .args .span in
-    let e : c .before .loop .first - sp .first .0 ≡ sp .months = omega arith in
-    rw e at (c .before .loop .inv .4)
+    let l = c .before .before .before in
+    let sp = l .before .before .before .before .before .before .before .before .before .args .span in
+    let e : l .loop .first .0 - sp .first .0 ≡ sp .months = omega (arith, c .if2 .left, l .loop .inv .1, l .loop .inv .5) in
+    rw e at (l .loop .inv .4)
 
 pub add-months-spec : {M : Type 1} → statement M
 add-months-spec =

@@ -4,7 +4,7 @@ use Prim.Native.Nat.{_≤_, _<_}
 use mathlib.Core.Path.{_∙_}
 use native.Mathlib.Omega.{arith}
 use borrow.Author.Needs.{needs}
-use Rattle.rates.specs.Prepared.{recoveryOf, deathOf}
+use Rattle.rates.specs.Prepared.{partRecovery, partDeath}
 use Rattle.study.proofs.Banded.{Less, less, band-is}
 use Rattle.study.proofs.share.band_rates.Statement.{statement}
 use Rattle.study.proofs.share.band_rates.Tie as tie
@@ -20,7 +20,7 @@ module _ (c : tie.After-times-rates2) where
   abbrev front : tie.After-times-rates
   front = c .before .before
 
-  abbrev all : tie.After-rate-sums
+  abbrev all : tie.After-rates-over
   all = front .before
 
   abbrev start : tie.Start
@@ -32,32 +32,32 @@ module _ (c : tie.After-times-rates2) where
   few : start .args .months ≤ 1800
   few = omega arith
 
-  recoveries : Less (all .rate-sums .result .recoveries) (front .times-rates .result .recoveries) (c .times-rates2 .result .recoveries) (start .args .months)
+  recoveries : Less (all .rates-over .result .recoveries) (front .times-rates .result .recoveries) (c .times-rates2 .result .recoveries) (start .args .months)
   recoveries =
-      less (all .rate-sums .result .recoveries) (front .times-rates .result .recoveries) (c .times-rates2 .result .recoveries) (start .args .months) some few
-      (all .rate-sums .ensures .1 .1 .0) (front .times-rates .ensures .1 .1 .0) (c .times-rates2 .ensures .1 .1 .0)
+      less (all .rates-over .result .recoveries) (front .times-rates .result .recoveries) (c .times-rates2 .result .recoveries) (start .args .months) some few
+      (all .rates-over .ensures .1 .1 .0) (front .times-rates .ensures .1 .1 .0) (c .times-rates2 .ensures .1 .1 .0)
 
-  deaths : Less (all .rate-sums .result .deaths) (front .times-rates .result .deaths) (c .times-rates2 .result .deaths) (start .args .months)
+  deaths : Less (all .rates-over .result .deaths) (front .times-rates .result .deaths) (c .times-rates2 .result .deaths) (start .args .months)
   deaths =
-      less (all .rate-sums .result .deaths) (front .times-rates .result .deaths) (c .times-rates2 .result .deaths) (start .args .months) some few
-      (all .rate-sums .ensures .1 .1 .1) (front .times-rates .ensures .1 .1 .1) (c .times-rates2 .ensures .1 .1 .1)
+      less (all .rates-over .result .deaths) (front .times-rates .result .deaths) (c .times-rates2 .result .deaths) (start .args .months) some few
+      (all .rates-over .ensures .1 .1 .1) (front .times-rates .ensures .1 .1 .1) (c .times-rates2 .ensures .1 .1 .1)
 
 returns : tie.Need-returns
 returns c =
     let k = c .before .before .before .before .before .before .before .before .before .before .before .before in
     let args = start k .args in
     let d = args .first .0 in
-    let recovery = recoveryOf (args .kind) (args .table .now) (args .cell .0) in
-    let death = deathOf (args .kind) (args .table .now) (args .cell .0) in
-    let a = all k .rate-sums in
+    let recovery = partRecovery (args .kind) (args .part .now) in
+    let death = partDeath (args .kind) (args .part .now) in
+    let a = all k .rates-over in
     let b = front k .times-rates in
     let e = k .times-rates2 in (
       recoveries k .is
-          ∙ band-is recovery d (args .months) (args .before) (args .short) (a .result .recoveries) (b .result .recoveries) (e .result .recoveries) (start k .pre .0)
+          ∙ band-is recovery d (args .months) (args .before .0) (args .short .0) (a .result .recoveries) (b .result .recoveries) (e .result .recoveries) (start k .pre .0)
           (a .ensures .0) (b .ensures .0) (e .ensures .0),
       (
         deaths k .is
-            ∙ band-is death d (args .months) (args .before) (args .short) (a .result .deaths) (b .result .deaths) (e .result .deaths) (start k .pre .0) (a .ensures .1 .0)
+            ∙ band-is death d (args .months) (args .before .0) (args .short .0) (a .result .deaths) (b .result .deaths) (e .result .deaths) (start k .pre .0) (a .ensures .1 .0)
             (b .ensures .1 .0) (e .ensures .1 .0),
         (recoveries k .size, deaths k .size),
       ),

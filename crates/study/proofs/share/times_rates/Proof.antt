@@ -4,7 +4,7 @@ use mathlib.Core.Path.{_≡_, sym}
 use native.Mathlib.Omega.{arith}
 use borrow.Author.Needs.{needs}
 use lib.IntN.{zero-*ℤ}
-use Rattle.rates.specs.Prepared.{recoveryOf, deathOf}
+use Rattle.rates.specs.Prepared.{partRecovery, partDeath}
 use Rattle.study.proofs.Banded.{Timed, timed}
 use Rattle.study.proofs.share.times_rates.Statement.{statement}
 use Rattle.study.proofs.share.times_rates.Tie as tie
@@ -12,25 +12,25 @@ use Rattle.study.proofs.share.times_rates.Tie as tie
 returns : tie.Need-returns
 returns c =
     let args = c .before .before .args in
-    let none : args .thirtieths ≡ 0 = omega arith in
+    let none : args .thirtieths .0 ≡ 0 = omega arith in
     rw none (
-      sym (zero-*ℤ (recoveryOf (args .kind) (args .table .now) (args .cell .0) (args .duration .0))),
-      (sym (zero-*ℤ (deathOf (args .kind) (args .table .now) (args .cell .0) (args .duration .0))), (omega arith, omega arith)),
+      sym (zero-*ℤ (partRecovery (args .kind) (args .part .now) (args .duration .0))),
+      (sym (zero-*ℤ (partDeath (args .kind) (args .part .now) (args .duration .0))), (omega arith, omega arith)),
     )
 
-module _ (c : tie.After-rate-sums) where
+module _ (c : tie.After-rates-over) where
   abbrev start : tie.Start
   start = c .before .before .before
 
-  recoveries : Timed (recoveryOf (start .args .kind) (start .args .table .now) (start .args .cell .0) (start .args .duration .0)) (start .args .thirtieths) (c .rate-sums .result .recoveries)
+  recoveries : Timed (partRecovery (start .args .kind) (start .args .part .now) (start .args .duration .0)) (start .args .thirtieths .0) (c .rates-over .result .recoveries)
   recoveries =
-      timed (recoveryOf (start .args .kind) (start .args .table .now) (start .args .cell .0)) (start .args .duration .0) (start .args .thirtieths)
-      (c .rate-sums .result .recoveries) (start .pre .0) (start .pre .1) (c .rate-sums .ensures .0) (c .rate-sums .ensures .1 .1 .0)
+      timed (partRecovery (start .args .kind) (start .args .part .now)) (start .args .duration .0) (start .args .thirtieths .0)
+      (c .rates-over .result .recoveries) (start .pre .0) (start .pre .1) (c .rates-over .ensures .0) (c .rates-over .ensures .1 .1 .0)
 
-  deaths : Timed (deathOf (start .args .kind) (start .args .table .now) (start .args .cell .0) (start .args .duration .0)) (start .args .thirtieths) (c .rate-sums .result .deaths)
+  deaths : Timed (partDeath (start .args .kind) (start .args .part .now) (start .args .duration .0)) (start .args .thirtieths .0) (c .rates-over .result .deaths)
   deaths =
-      timed (deathOf (start .args .kind) (start .args .table .now) (start .args .cell .0)) (start .args .duration .0) (start .args .thirtieths)
-      (c .rate-sums .result .deaths) (start .pre .0) (start .pre .1) (c .rate-sums .ensures .1 .0) (c .rate-sums .ensures .1 .1 .1)
+      timed (partDeath (start .args .kind) (start .args .part .now)) (start .args .duration .0) (start .args .thirtieths .0)
+      (c .rates-over .result .deaths) (start .pre .0) (start .pre .1) (c .rates-over .ensures .1 .0) (c .rates-over .ensures .1 .1 .1)
 
 returns-2 : tie.Need-returns-2
 returns-2 c =
