@@ -5,7 +5,7 @@
 -- studies over parts total. `DefinitionChanges`: code 6 counts as a recovery. `Demand3`: the theorem. `Weights`: claims that weigh one each. `Members`:
 -- the claims of a list. `TakenBack`: claims withdrawn. `OwnShare`, `Withdrawals`: what a withdrawal's code computes. `PreparedWithdrawing`: withdrawing
 -- with a table of either kind. `Joins`: what a join tests and adds. `Pooling`: two studies joined. `Groupings`: pools in any tree. `PoolOrders`: in any
--- order.
+-- order. `Returned`: what every study that a call returns has.
 pub mod Algebra
 pub mod SumOver
 mod Places
@@ -31,3 +31,4 @@ pub mod Pooling
 mod Joins
 pub mod Groupings
 pub mod PoolOrders
+pub mod Returned

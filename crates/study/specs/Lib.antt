@@ -11,4 +11,5 @@ pub mod Moves
 pub mod Joining
 pub mod PoolTrees
 pub mod PoolOrders
+pub mod Returned
 pub mod Private
