@@ -1,6 +1,7 @@
 -- What the calls for C and Rust answer, and what they leave in the lent lists.
 pub mod Abi
 pub mod StudyCalls
+pub mod CallChains
 pub mod RecordCalls
 pub mod CompanyCalls
 pub mod LoadCalls

@@ -18,7 +18,7 @@ use Rattle.rates.specs.declared.Kind.the-variants.{Prepared}
 use Rattle.rates.specs.Prepared.{preparedOf}
 use Rattle.study.specs.declared.Study.{Study}
 use Rattle.study.specs.declared.Answer.{Answer}
-use Rattle.study.specs.Study.{added}
+use Rattle.study.specs.Study.{opened, added}
 use Rattle.study.specs.Joining.{joined}
 use Rattle.study.specs.PreparedAdding.{addedWith}
 use Rattle.study.specs.Withdrawing.{withdrawn}
@@ -26,9 +26,11 @@ use Rattle.study.specs.PreparedWithdrawing.{withdrawnWith}
 use Rattle.claim_file.specs.declared.MaybeClaim.{MaybeClaim}
 use Rattle.claim_file.specs.declared.MaybeClaim.the-variants.{Found, NoRecord}
 use Rattle.claim_file.specs.BlockAnswers.{recordIn}
+use Rattle.study_list.specs.Lent.{answered, stored}
 use Rattle.study_list.specs.StudyList.{studyNumbers}
 use Rattle.c_abi.specs.declared.Change.{Change}
 use Rattle.c_abi.specs.declared.Change.the-variants.{Add, Withdraw}
+use Rattle.c_abi.specs.Abi.{dateIn}
 
 -- a list that has the form of a study: 83 numbers or more
 unfoldable pub studyForm : List ℤ → Bool
@@ -62,6 +64,13 @@ abbrev pub ListStands : Type 0
 ListStands =
     (s : Study) (rest : List ℤ) → s .window .first .0 ≤ lastDayNumber → s .window .last .0 ≤ lastDayNumber → s .taken ≤ most-claims
     → length (s .sums) ≡ 80 → studyIn (studyNumbers s ++ rest) ≡ s
+
+-- ltd_open: 255 for a list that has not the form of a study; the list afterwards has the study that opening gives, refused or not
+abbrev pub openAnswer : ℕ → ℕ → List ℤ → ℕ
+openAnswer first last xs = answered 83 xs (opened (dateIn first) (dateIn last) .refused)
+
+abbrev pub openAfter : ℕ → ℕ → List ℤ → List ℤ
+openAfter first last xs = stored 83 xs (sets xs 0 (studyNumbers (opened (dateIn first) (dateIn last) .study)))
 
 -- what a study makes of a claim with some rates: adding it, or withdrawing it
 abbrev pub Taking : Type 0

@@ -3,15 +3,11 @@ ghost use mathlib.Core.Path.{_≡_};
 ghost use Prim.Native.Nat.{_≤_};
 ghost use denote.Ref.{now};
 ghost use lib.ListN.{length};
-ghost use lib.Seq.{sets};
 ghost use Rattle.rates.specs.declared.Kind.the-variants.{Prepared};
-ghost use Rattle.study.specs.Study.{opened, added};
+ghost use Rattle.study.specs.Study.{added};
 ghost use Rattle.study.specs.Withdrawing.{withdrawn};
-ghost use Rattle.study_list.specs.Lent.{answered, stored};
-ghost use Rattle.study_list.specs.StudyList.{studyNumbers};
 ghost use Rattle.c_abi.specs.declared.Change.the-variants.{Add, Withdraw};
-ghost use Rattle.c_abi.specs.Abi.{dateIn};
-ghost use Rattle.c_abi.specs.StudyCalls.{heldUpTo, sumsIn, studyIn, changedBy, claimAnswer, claimAfter, joinAnswer, joinAfter};
+ghost use Rattle.c_abi.specs.StudyCalls.{heldUpTo, sumsIn, studyIn, openAnswer, openAfter, changedBy, claimAnswer, claimAfter, joinAnswer, joinAfter};
 use crate::Change;
 use crate::listing::date_in;
 use basics::limits::MOST_CLAIMS;
@@ -73,8 +69,8 @@ fn study_in(list: &[i64]) -> Study
 // Opens a study.
 #[no_mangle]
 pub extern "C" fn ltd_open(first: u32, last: u32, study: &mut [i64]) -> u8
-    ensures { λ r. ⌜ r ≡ answered 83 (now (study .entry)) (opened (dateIn first) (dateIn last) .refused) ⌝ }
-    ensures { λ _. ⌜ now (study .exit) ≡ stored 83 (now (study .entry)) (sets (now (study .entry)) 0 (studyNumbers (opened (dateIn first) (dateIn last) .study))) ⌝ }
+    ensures { λ r. ⌜ r ≡ openAnswer first last (now (study .entry)) ⌝ }
+    ensures { λ _. ⌜ now (study .exit) ≡ openAfter first last (now (study .entry)) ⌝ }
 {
     if study.len() < 83 {
         return NO_FORM;
