@@ -3,6 +3,7 @@ pub mod Abi
 pub mod StudyCalls
 pub mod CallChains
 pub mod CallsAddUp
+pub mod CallMoves
 pub mod RecordCalls
 pub mod CompanyCalls
 pub mod LoadCalls
