@@ -11,7 +11,7 @@ use native.Mathlib.Nat.{mul-le-mul, mul-le-mul-left}
 use native.Mathlib.Numerals.{add-one}
 use borrow.Author.Tests.{le-leb, leb-true}
 use Rattle.basics.specs.Pick.{pick}
-use Rattle.basics.specs.Limits.{most-benefit}
+use Rattle.basics.specs.Limits.{most-claims, most-thirtieths, most-expected, most-benefit}
 use Rattle.basics.specs.Tables.{everyPlace}
 use Rattle.basics.proofs.Tests.{tests, by, and-left, and-right}
 use Rattle.basics.proofs.Integers.{sub-is, size-sub}
@@ -57,24 +57,24 @@ all-wider b b′ s h a =
     all-is b′ s (λ k l. wider (placeBound b k) (placeBound b′ k) (columnAt k) (at s k) (mul-le-mul-left (timesAt most-benefit k) (h (columnAt k))) (all-at b s a k l))
 
 -- a bound is at most 200 times 2.7 × 10¹⁶
-pub times-most : (k : ℕ) → timesAt most-benefit k ≤ 200
+pub times-most : (k : ℕ) → timesAt most-benefit k ≤ most-benefit
 unfolding timesAt
-times-most k = by (ltb k 40) (λ t. pick t 1 200 ≤ 200) (λ q. omega tests) (λ q. omega tests)
+times-most k = by (ltb k 40) (λ t. pick t 1 most-benefit ≤ most-benefit) (λ q. omega tests) (λ q. omega tests)
 
-column-most : (column : ℕ) → columnBound column ≤ 27000000000000000
+column-most : (column : ℕ) → columnBound column ≤ most-expected
 unfolding columnBound
 column-most column =
-    by (isCount column) (λ t. pick t 500000 (pick (eqb column 0) 27000000000 27000000000000000) ≤ 27000000000000000) (λ q. omega tests)
-    (λ q. by (eqb column 0) (λ t. pick t 27000000000 27000000000000000 ≤ 27000000000000000) (λ q. omega tests) (λ q. omega tests))
+    by (isCount column) (λ t. pick t most-claims (pick (eqb column 0) most-thirtieths most-expected) ≤ most-expected) (λ q. omega tests)
+    (λ q. by (eqb column 0) (λ t. pick t most-thirtieths most-expected ≤ most-expected) (λ q. omega tests) (λ q. omega tests))
 
 -- a number of sums within the bounds of refusal 9
 module _ (s : List ℤ) (h : within s ≡ true) (k : ℕ) (l : k < 80) where
   pub within-size : natAbs (at s k) ≤ placeBound columnBound k
   within-size = in-size (placeBound columnBound k) (columnAt k) (at s k) (all-at columnBound s h k l)
 
-  pub within-high : natAbs (at s k) ≤ 5400000000000000000
+  pub within-high : natAbs (at s k) ≤ most-benefit * most-expected
   within-high =
-      let b : placeBound columnBound k ≤ 200 * 27000000000000000 = mul-le-mul (times-most k) (column-most (columnAt k)) in
+      let b : placeBound columnBound k ≤ most-benefit * most-expected = mul-le-mul (times-most k) (column-most (columnAt k)) in
       let z = within-size in
       omega tests
 

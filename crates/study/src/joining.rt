@@ -1,10 +1,11 @@
 // Joining two studies of one window (document 02, No. 3).
 ghost use mathlib.Core.Path.{_≡_};
 ghost use mathlib.Core.Bool.{true};
-ghost use Prim.Native.Nat.{_≤_};
+ghost use Prim.Native.Nat.{_*_, _≤_};
 ghost use denote.Ref.{now};
 ghost use lib.Dec.{leb};
 ghost use lib.IntN.{natAbs, _+ℤ_};
+ghost use Rattle.basics.specs.Limits.{most-benefit, most-expected};
 ghost use Rattle.study.specs.Sums.{plus, within};
 ghost use Rattle.study.specs.Joining.{joinRoom, joinCheck, joined};
 ghost use Rattle.study.specs.PreparedAdding.{lentStudy};
@@ -18,7 +19,7 @@ use claim_months::windows::is_sound;
 
 // Whether the sum of two numbers from −bound to bound lies there too: tested without adding, since 64 bits may not hold it.
 fn sum_within(a: i64, b: i64, bound: u64) -> bool
-    requires { ⌜ bound ≤ 5400000000000000000 ⌝ }
+    requires { ⌜ bound ≤ most-benefit * most-expected ⌝ }
     requires { ⌜ natAbs a ≤ bound ⌝ }
     requires { ⌜ natAbs b ≤ bound ⌝ }
     ensures { λ r. ⌜ r ≡ leb (natAbs (a +ℤ b)) bound ⌝ }

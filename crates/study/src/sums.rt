@@ -41,7 +41,7 @@ pub fn sum_at(sums: &[i64; 80], group: u8, column: u8) -> i64
     if group > 5 {
         return 0;
     }
-    if column > 7 {
+    if column > DEATHS {
         return 0;
     }
     sums[(8 * (group - 1) + column) as usize]
@@ -86,14 +86,14 @@ fn column_bound(column: usize) -> u64
 pub(crate) fn bound_at(place: usize) -> u64
     requires { ⌜ place < 80 ⌝ }
     ensures { λ r. ⌜ r ≡ timesAt most-benefit place * columnBound (place % 8) ⌝ }
-    ensures { λ r. ⌜ r ≤ 5400000000000000000 ⌝ }
+    ensures { λ r. ⌜ r ≤ most-benefit * most-expected ⌝ }
 {
     times_in(place / 8) * column_bound(place % 8)
 }
 
 // Whether a number lies from −bound to bound.
 fn is_within(x: i64, bound: u64) -> bool
-    requires { ⌜ bound ≤ 5400000000000000000 ⌝ }
+    requires { ⌜ bound ≤ most-benefit * most-expected ⌝ }
     ensures { λ r. ⌜ r ≡ leb (natAbs x) bound ⌝ }
 {
     let limit = bound as i64;
@@ -105,7 +105,7 @@ fn is_within(x: i64, bound: u64) -> bool
 
 // Whether a number lies from 0 to bound.
 fn is_up_to(x: i64, bound: u64) -> bool
-    requires { ⌜ bound ≤ 5400000000000000000 ⌝ }
+    requires { ⌜ bound ≤ most-benefit * most-expected ⌝ }
     ensures { λ r. ⌜ r ≡ (leb (natAbs x) bound && nonNeg x) ⌝ }
 {
     if x < 0 {
@@ -117,7 +117,7 @@ fn is_up_to(x: i64, bound: u64) -> bool
 // Whether a group's closing counts lie from 0 to bound.
 fn counts_within(sums: &[i64; 80], at: usize, bound: u64) -> bool
     requires { ⌜ at + 8 ≤ 80 ⌝ }
-    requires { ⌜ bound ≤ 5400000000000000000 ⌝ }
+    requires { ⌜ bound ≤ most-benefit * most-expected ⌝ }
     ensures { λ r. ⌜ r ≡ countsInBounds bound (now (sums .entry)) at ⌝ }
 {
     for column in 1..6 {
@@ -145,11 +145,11 @@ fn group_within(sums: &[i64; 80], at: usize, times: u64, bounds: Bounds) -> bool
     if !counts_within(sums, at, times * bounds.count) {
         return false;
     }
-    let recoveries = sums[at + 6];
+    let recoveries = sums[at + RECOVERIES as usize];
     if !is_within(recoveries, times * bounds.expected) {
         return false;
     }
-    let deaths = sums[at + 7];
+    let deaths = sums[at + DEATHS as usize];
     is_within(deaths, times * bounds.expected)
 }
 
@@ -200,7 +200,7 @@ pub fn has_room_for_block(sums: &[i64; 80]) -> bool
 fn raise(sums: &mut [i64], place: usize, amount: i64, most: u64)
     requires { ⌜ place < length (now sums) ⌝ }
     requires { ⌜ most ≡ timesAt most-benefit place * most-expected ⌝ }
-    requires { ⌜ most ≤ 5400000000000000000 ⌝ }
+    requires { ⌜ most ≤ most-benefit * most-expected ⌝ }
     requires { ⌜ natAbs amount ≤ 1000000000000000000 ⌝ }
     ensures { λ _. ⌜ now (sums .exit) ≡ set (now (sums .entry)) place (guardedSum place (getD (now (sums .entry)) place (pos 0)) amount) ⌝ }
 {

@@ -5,6 +5,7 @@ use mathlib.Core.Path.{_≡_, ap, ap₂, _∙_}
 use native.Mathlib.Omega.{arith}
 use native.Mathlib.Nat.{mul-le-mul}
 use borrow.Author.Needs.{needs}
+use Rattle.basics.specs.Limits.{most-expected, most-benefit}
 use Rattle.study.specs.Sums.{timesAt}
 use Rattle.study.proofs.Places.{group-times}
 use Rattle.study.proofs.sums.bound_at.Statement.{statement}
@@ -14,13 +15,13 @@ module _ (c : tie.After-column-bound) where
   abbrev place : ℕ
   place = c .before .before .args .place
 
-  high : c .before .times-in .result * c .column-bound .result ≤ 5400000000000000000
+  high : c .before .times-in .result * c .column-bound .result ≤ most-benefit * most-expected
   high = mul-le-mul (c .before .times-in .ensures .1) (c .column-bound .ensures .1)
 
-  in-group : timesAt 200 (8 * (place / 8)) ≡ timesAt 200 place
+  in-group : timesAt most-benefit (8 * (place / 8)) ≡ timesAt most-benefit place
   in-group =
       let e : 8 * (place / 8) + place % 8 ≡ place = omega arith in
-      group-times 200 (place / 8) (place % 8) (omega arith) ∙ ap (timesAt 200) e
+      group-times most-benefit (place / 8) (place % 8) (omega arith) ∙ ap (timesAt most-benefit) e
 
 mul-result : tie.Need-mul-result
 mul-result c = omega (arith, high c)

@@ -14,7 +14,7 @@ use mir.Syntax.{w64}
 use mir.Val.{toZ, ofZ}
 use mir.Facts.{toZ-ofZ}
 use Rattle.basics.specs.Pick.{pick}
-use Rattle.basics.specs.Limits.{most-expected}
+use Rattle.basics.specs.Limits.{most-expected, most-benefit}
 use Rattle.basics.proofs.Tests.{tests, by}
 use Rattle.basics.proofs.Tables.{every-at, every-is, every-fails}
 use Rattle.study.specs.declared.sums.Bounds.{Bounds}
@@ -96,10 +96,10 @@ module _ (s : tie.Start) where
   abbrev from : ℕ
   from = s .args .at
 
-  product-high : (b : ℕ) → b ≤ most-expected → times * b ≤ 5400000000000000000
+  product-high : (b : ℕ) → b ≤ most-expected → times * b ≤ most-benefit * most-expected
   product-high b h = mul-le-mul (s .pre .1 .0) h
 
-  high : (times * bounds .thirtieths ≤ 5400000000000000000) × (times * bounds .count ≤ 5400000000000000000) × (times * bounds .expected ≤ 5400000000000000000)
+  high : (times * bounds .thirtieths ≤ most-benefit * most-expected) × (times * bounds .count ≤ most-benefit * most-expected) × (times * bounds .expected ≤ most-benefit * most-expected)
   high = (product-high (bounds .thirtieths) (omega arith), product-high (bounds .count) (omega arith), product-high (bounds .expected) (omega arith))
 
 -- what the calls say of the sums, read back from their bits
@@ -160,8 +160,8 @@ group-within-spec =
     (tie.spec (λ c. search needs) (λ c. omega arith) (λ c. omega (arith, high (c .before .before) .0)) (λ c κs. high (c .before .before) .0) returns
     (λ c. omega (arith, high (c .before .before .before .before .before) .1))
     (λ c κs. (omega arith, high (c .before .before .before .before .before) .1)) returns-2
-    (λ c. omega arith) (λ c. search needs) (λ c. omega arith)
+    (λ c. search needs) (λ c. omega arith) (λ c. search needs) (λ c. omega arith)
     (λ c. omega (arith, high (start (c .before .before .before)) .2)) (λ c κs. high (start (c .before .before .before)) .2) returns-3
-    (λ c. omega arith) (λ c. search needs) (λ c. omega arith)
+    (λ c. search needs) (λ c. omega arith) (λ c. search needs) (λ c. omega arith)
     (λ c. omega (arith, high (start (c .before .before .before .before .before .before .before)) .2))
     (λ c κs. high (start (c .before .before .before .before .before .before .before)) .2) returns-4)

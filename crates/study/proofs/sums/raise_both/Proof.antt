@@ -127,7 +127,7 @@ first-most : (k : ℕ) → k < 40 → most-expected ≡ timesAt most-benefit k *
 unfolding timesAt
 first-most k h = rw (lt-ltb k 40 h) refl
 
-weighted-most : (k : ℕ) → 40 ≤ k → 5400000000000000000 ≡ timesAt most-benefit k * most-expected
+weighted-most : (k : ℕ) → 40 ≤ k → most-benefit * most-expected ≡ timesAt most-benefit k * most-expected
 unfolding timesAt
 weighted-most k h = rw (le-ltb k 40 h) refl
 
