@@ -8,6 +8,9 @@ use mathlib.Core.List.{List}
 use lib.Dec.{leb, ltb}
 use lib.IntN.{ℤ, pos, negsuc, natAbs, negℤ, subℕ, _+ℤ_, _-ℤ_, +ℤ-idl}
 use lib.Signed.{ltZ, leZ}
+use mir.Syntax.{w64}
+use mir.Val.{SFits, toZ, ofZ}
+use mir.Facts.{toZ-ofZ}
 use borrow.Author.Tests.{le-leb, lt-leb, leb-true, le-ltb, eq-eqb, ne-eqb}
 use Rattle.basics.specs.Checks.{check, _then_, refuse-window, refuse-other-window, refuse-full}
 use Rattle.basics.proofs.Tests.{tests, by, and-left, and-right}
@@ -70,6 +73,14 @@ highest-size (negsuc m) n hb h = absurd (true≢false h)
 pub highest : (a b : ℤ) (n : ℕ) → natAbs a ≤ n → natAbs b ≤ n → ltZ b (pos 0) ≡ false → leZ a (pos n -ℤ b) ≡ leb (natAbs (a +ℤ b)) n
 highest a (pos m) n ha hb h = ap (leZ a) (difference m n hb) ∙ too-high a m n ha hb
 highest a (negsuc m) n ha hb h = absurd (true≢false h)
+
+-- two numbers at a place, read back from their bits
+pub record Read (a b : List ℤ) (k : ℕ) : Type 0 where
+  pub one : toZ w64 (ofZ w64 (at a k)) ≡ at a k
+  pub other : toZ w64 (ofZ w64 (at b k)) ≡ at b k
+
+pub read : (a b : List ℤ) (k : ℕ) → SFits w64 (at a k) → SFits w64 (at b k) → Read a b k
+read a b k p q = record { one = toZ-ofZ p; other = toZ-ofZ q }
 
 -- the sums of two sets of claims together, where each of the two is within the bounds: one sum that is too large decides, and counts are not below 0
 module _ (a b : List ℤ) where

@@ -1,6 +1,6 @@
 -- `study::joining::plus_each` meets its contract. Invariant: the first `place` sums stand. Measure: the places left.
 -- Assumes nothing.
-use Prim.Native.Nat.{ℕ, _-_, _≤_, _<_}
+use Prim.Native.Nat.{ℕ, _-_, _*_, _≤_, _<_}
 use mathlib.Core.Path.{_≡_, refl, ap₂, _∙_}
 use native.Mathlib.Omega.{arith}
 use lib.ListN.{length, length-set}
@@ -8,11 +8,13 @@ use lib.IntN.{ℤ, pos, natAbs, _+ℤ_}
 use mir.Syntax.{w64}
 use mir.Val.{SFits, toZ, ofZ}
 use mir.Facts.{toZ-ofZ}
+use Rattle.basics.specs.Limits.{most-expected, most-benefit}
 use Rattle.basics.proofs.Signed.{small-fits}
 use Rattle.basics.proofs.Tables.{filled-more}
 use Rattle.study.specs.Sums.{plus}
 use Rattle.study.proofs.Algebra.{at, each-at, each-is}
 use Rattle.study.proofs.InBounds.{within-high}
+use Rattle.study.proofs.Joins.{Read, read}
 use Rattle.study.proofs.joining.plus_each.Statement.{statement}
 use Rattle.study.proofs.joining.plus_each.Tie as tie
 
@@ -30,28 +32,22 @@ module _ (c : tie.After-sums2 Inv-loop μ-loop) where
   abbrev k : ℕ
   k = c .before .before .before .loop .place
 
-  abbrev x : ℤ
-  x = at (start .args .a .now) k
+  abbrev sum : ℤ
+  sum = at (start .args .a .now) k +ℤ at (start .args .b .now) k
 
-  abbrev y : ℤ
-  y = at (start .args .b .now) k
-
-  read-x : toZ w64 (ofZ w64 x) ≡ x
-  read-x = toZ-ofZ (record { sfits = c .before .sums .given })
-
-  read-y : toZ w64 (ofZ w64 y) ≡ y
-  read-y = toZ-ofZ (record { sfits = c .sums2 .given })
-
-  size : natAbs (x +ℤ y) ≤ 5400000000000000000
+  size : natAbs sum ≤ most-benefit * most-expected
   size =
       let g = start .args in
       rw (each-at _+ℤ_ (g .a .now) (g .b .now) k (omega arith)) at (within-high (plus (g .a .now) (g .b .now)) (start .pre) k (omega arith))
 
-  fits : SFits w64 (toZ w64 (ofZ w64 x) +ℤ toZ w64 (ofZ w64 y))
-  fits = rw (read-x, read-y) (small-fits (x +ℤ y) (omega (arith, size)))
+  numbers : Read (start .args .a .now) (start .args .b .now) k
+  numbers = read _ _ k (record { sfits = c .before .sums .given }) (record { sfits = c .sums2 .given })
 
-  stored : toZ w64 (ofZ w64 (toZ w64 (ofZ w64 x) +ℤ toZ w64 (ofZ w64 y))) ≡ x +ℤ y
-  stored = toZ-ofZ fits ∙ ap₂ _+ℤ_ read-x read-y
+  fits : SFits w64 (toZ w64 (ofZ w64 (at (start .args .a .now) k)) +ℤ toZ w64 (ofZ w64 (at (start .args .b .now) k)))
+  fits = rw (numbers .one, numbers .other) (small-fits sum (omega (arith, size)))
+
+  stored : toZ w64 (ofZ w64 (toZ w64 (ofZ w64 (at (start .args .a .now) k)) +ℤ toZ w64 (ofZ w64 (at (start .args .b .now) k)))) ≡ sum
+  stored = toZ-ofZ fits ∙ ap₂ _+ℤ_ (numbers .one) (numbers .other)
 
 loop-again : tie.Need-loop-again Inv-loop μ-loop
 loop-again c =

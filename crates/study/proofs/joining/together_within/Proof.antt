@@ -8,15 +8,12 @@ use native.Mathlib.Omega.{arith}
 use borrow.Author.Tests.{not-true, not-false}
 use lib.Dec.{leb}
 use lib.IntN.{ℤ, natAbs, _+ℤ_}
-use mir.Syntax.{w64}
-use mir.Val.{toZ, ofZ}
-use mir.Facts.{toZ-ofZ}
 use Rattle.basics.specs.Tables.{everyPlace}
 use Rattle.basics.proofs.Tables.{every-at}
 use Rattle.study.specs.Sums.{columnBound}
 use Rattle.study.proofs.Algebra.{at}
 use Rattle.study.proofs.InBounds.{placeBound, within-size, every-more}
-use Rattle.study.proofs.Joins.{sum-beyond, sums-within}
+use Rattle.study.proofs.Joins.{Read, read, sum-beyond, sums-within}
 use Rattle.study.proofs.joining.together_within.Statement.{statement}
 use Rattle.study.proofs.joining.together_within.Tie as tie
 
@@ -38,17 +35,8 @@ module _ (c : tie.After-y Inv-loop μ-loop) where
   abbrev k : ℕ
   k = c .before .before .before .loop .place
 
-  abbrev x : ℤ
-  x = at (start .args .a .now) k
-
-  abbrev y : ℤ
-  y = at (start .args .b .now) k
-
-  read-x : toZ w64 (ofZ w64 x) ≡ x
-  read-x = toZ-ofZ (record { sfits = c .before .x .given })
-
-  read-y : toZ w64 (ofZ w64 y) ≡ y
-  read-y = toZ-ofZ (record { sfits = c .y .given })
+  numbers : Read (start .args .a .now) (start .args .b .now) k
+  numbers = read _ _ k (record { sfits = c .before .x .given }) (record { sfits = c .y .given })
 
 sum-within-requires : tie.Need-sum-within-requires Inv-loop μ-loop
 sum-within-requires c κs =
@@ -56,8 +44,8 @@ sum-within-requires c κs =
     let s = start d in (
       c .bound-at .ensures .1,
       (
-        rw (read-x d, c .bound-at .ensures .0) (within-size (s .args .a .now) (s .pre .0) (k d) (omega arith)),
-        rw (read-y d, c .bound-at .ensures .0) (within-size (s .args .b .now) (s .pre .1) (k d) (omega arith)),
+        rw (numbers d .one, c .bound-at .ensures .0) (within-size (s .args .a .now) (s .pre .0) (k d) (omega arith)),
+        rw (numbers d .other, c .bound-at .ensures .0) (within-size (s .args .b .now) (s .pre .1) (k d) (omega arith)),
       ),
     )
 
@@ -66,7 +54,7 @@ tested : (c : tie.After-sum-within Inv-loop μ-loop)
     → let d = c .before .before in c .sum-within .result ≡ test (start d .args .a .now) (start d .args .b .now) (k d)
 tested c =
     let d = c .before .before in
-    rw (read-x d, read-y d, c .before .bound-at .ensures .0) at (c .sum-within .ensures)
+    rw (numbers d .one, numbers d .other, c .before .bound-at .ensures .0) at (c .sum-within .ensures)
 
 returns : tie.Need-returns Inv-loop μ-loop
 returns c = sum-beyond _ _ (k (c .before .before .before)) (omega arith) (sym (tested (c .before)) ∙ not-true _ (c .if1 .taken))
