@@ -14,7 +14,7 @@ use Rattle.claim_months.specs.Windows.{windowCheck, Parts, total}
 use Rattle.study.specs.declared.Study.{Study}
 use Rattle.study.specs.declared.Answer.{Answer}
 use Rattle.study.specs.Sums.{plus, within}
-use Rattle.study.specs.Study.{studyOf, opened, added}
+use Rattle.study.specs.Study.{studyOf, opened, studyAnswer, added}
 use Rattle.study.specs.Moves.{Move, timesIn, remaining, Allowed, Dates, datesOf, Accepted, movedIn}
 
 abbrev pub studyWindowCheck : Study → ℕ
@@ -41,7 +41,7 @@ together s t = record { window = s .window; taken = s .taken + t .taken; sums = 
 
 -- Joining takes two studies. A refusal gives its number and the first study
 unfoldable pub joined : Study → Study → Answer
-joined s t = record { refused = joinCheck s t; study = pick (eqb (joinCheck s t) 0) (together s t) s }
+joined s t = studyAnswer (joinCheck s t) s (together s t)
 
 -- the study that adding a list of claims to one returns, each addition given the study that the one before it returned
 unfoldable pub addedAll : List ℕ → Study → List Claim → Study

@@ -22,7 +22,7 @@ use Rattle.rates.specs.Prepared.{tableCheckOf, recoveryOf, deathOf, preparedOf}
 use Rattle.study.specs.declared.Study.{Study}
 use Rattle.study.specs.declared.Answer.{Answer}
 use Rattle.study.specs.Sums.{isCount, timesAt, plus, allInBounds, within}
-use Rattle.study.specs.Study.{recordSums, roomCheck, added}
+use Rattle.study.specs.Study.{recordSums, roomCheck, studyAnswer, added}
 
 -- a claim's share of a study, with the table's rates of its cell
 unfoldable pub shareWith : Kind → Window → List ℕ → Claim → List ℤ
@@ -37,25 +37,20 @@ addCheckWith kind s c table =
     then tableCheckOf kind table (c .cell)
     then roomCheck s
 
+-- a study by its parts, of which the sums may be lent
+abbrev pub lentStudy : Window → ℕ → List ℤ → Study
+lentStudy w taken sums = record { window = w; taken = taken; sums = sums }
+
 -- adding, on every list of numbers as a table
 unfoldable pub addedWith : Kind → Study → Claim → List ℕ → Answer
 addedWith kind s c table =
-    record {
-      refused = addCheckWith kind s c table;
-      study =
-          pick (eqb (addCheckWith kind s c table) 0)
-          (record { window = s .window; taken = s .taken + 1; sums = plus (s .sums) (shareWith kind (s .window) table c) }) s;
-    }
+    studyAnswer (addCheckWith kind s c table) s (lentStudy (s .window) (s .taken + 1) (plus (s .sums) (shareWith kind (s .window) table c)))
 
 -- Adding with plain rates is document 01's, and adding with a prepared table is adding with the rates that were prepared, for every study,
 -- claim and list of rates, refusals included; `proofs/EitherTable.antt` proves both
 pub record SameAdding : Type 0 where
   pub plain : (s : Study) (c : Claim) (rates : List ℕ) → addedWith Plain s c rates ≡ added s c rates
   pub prepared : (s : Study) (c : Claim) (rates : List ℕ) → addedWith Prepared s c (preparedOf rates) ≡ added s c rates
-
--- A study whose sums are lent
-abbrev pub lentStudy : Window → ℕ → List ℤ → Study
-lentStudy w taken sums = record { window = w; taken = taken; sums = sums }
 
 -- Room for n claims more, whatever their shares: n claims take no sum past its bound. A claim has at most 1,800 months of 30 thirtieths, of
 -- rates below 2³² in any list of 32-bit numbers, and one closing, and 200 times that in the weighted set. Room for none is check 9's
@@ -85,12 +80,7 @@ addCheckTold room kind s c table =
 -- adding to a study whose sums are lent, told whether they are within their bounds
 unfoldable pub addedToLent : Bool → Kind → List ℕ → Claim → Study → Answer
 addedToLent room kind table c s =
-    record {
-      refused = addCheckTold room kind s c table;
-      study =
-          pick (eqb (addCheckTold room kind s c table) 0)
-          (lentStudy (s .window) (s .taken + 1) (guardedPlus (s .sums) (shareWith kind (s .window) table c))) s;
-    }
+    studyAnswer (addCheckTold room kind s c table) s (lentStudy (s .window) (s .taken + 1) (guardedPlus (s .sums) (shareWith kind (s .window) table c)))
 
 -- Told what is so, it is adding. Sums with room for a claim are within their bounds, and with room for one claim more before an addition with a
 -- table of 32-bit numbers they have room for that many after it. `proofs/LentSums.antt` proves it

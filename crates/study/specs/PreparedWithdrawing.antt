@@ -4,8 +4,7 @@ use Prim.Native.Nat.{ℕ, _-_}
 use mathlib.Core.Path.{_≡_}
 use mathlib.Core.Bool.{Bool, _&&_}
 use mathlib.Core.List.{List}
-use lib.Dec.{ltb, eqb}
-use Rattle.basics.specs.Pick.{pick}
+use lib.Dec.{ltb}
 use Rattle.basics.specs.Checks.{check, _then_, refuse-full, refuse-withdrawal}
 use Rattle.claim_months.specs.declared.Claim.{Claim}
 use Rattle.claim_months.specs.Claim.{claimCheck}
@@ -16,6 +15,7 @@ use Rattle.rates.specs.Prepared.{tableCheckOf, preparedOf}
 use Rattle.study.specs.declared.Study.{Study}
 use Rattle.study.specs.declared.Answer.{Answer}
 use Rattle.study.specs.Sums.{minus}
+use Rattle.study.specs.Study.{studyAnswer}
 use Rattle.study.specs.PreparedAdding.{shareWith, lentStudy}
 use Rattle.study.specs.Withdrawing.{withdrawRoom, covers, withdrawn}
 
@@ -32,12 +32,7 @@ withdrawCheckWith kind s c table =
 
 unfoldable pub withdrawnWith : Kind → Study → Claim → List ℕ → Answer
 withdrawnWith kind s c table =
-    record {
-      refused = withdrawCheckWith kind s c table;
-      study =
-          pick (eqb (withdrawCheckWith kind s c table) 0)
-          (lentStudy (s .window) (s .taken - 1) (minus (s .sums) (shareWith kind (s .window) table c))) s;
-    }
+    studyAnswer (withdrawCheckWith kind s c table) s (lentStudy (s .window) (s .taken - 1) (minus (s .sums) (shareWith kind (s .window) table c)))
 
 -- for every study, claim and list of rates, refusals included; `proofs/PreparedWithdrawing.antt` proves it
 pub record SameWithdrawing : Type 0 where

@@ -112,7 +112,10 @@ addCheck s c rates =
 unfoldable pub withClaim : Study → Claim → List ℕ → Study
 withClaim s c rates = record { window = s .window; taken = s .taken + 1; sums = plus (s .sums) (shareOf (s .window) rates c) }
 
+-- What a call answers of a study: 0 and the study that it makes, or the number of the first check that failed and the study as given
+abbrev pub studyAnswer : ℕ → Study → Study → Answer
+studyAnswer number given made = record { refused = number; study = pick (eqb number 0) made given }
+
 -- Adding takes study, claim and rates. A refusal gives its number and the study as given
 unfoldable pub added : Study → Claim → List ℕ → Answer
-added s c rates =
-    record { refused = addCheck s c rates; study = pick (eqb (addCheck s c rates) 0) (withClaim s c rates) s }
+added s c rates = studyAnswer (addCheck s c rates) s (withClaim s c rates)

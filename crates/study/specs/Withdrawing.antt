@@ -3,7 +3,7 @@ use Prim.Native.Nat.{ℕ, _-_}
 use mathlib.Core.Bool.{Bool, true, _&&_}
 use mathlib.Core.List.{List}
 use lib.ListN.{getD}
-use lib.Dec.{leb, ltb, eqb}
+use lib.Dec.{leb, ltb}
 use lib.IntN.{ℤ, pos}
 use lib.Signed.{leZ}
 use Rattle.basics.specs.Pick.{pick}
@@ -17,7 +17,7 @@ use Rattle.rates.specs.Rates.{rateCheck}
 use Rattle.study.specs.declared.Study.{Study}
 use Rattle.study.specs.declared.Answer.{Answer}
 use Rattle.study.specs.Sums.{columnAt, isCount, minus, within}
-use Rattle.study.specs.Study.{shareOf}
+use Rattle.study.specs.Study.{shareOf, studyAnswer}
 
 -- 9, as adding has it, save that a study of exactly 500,000 may be withdrawn from
 unfoldable pub withdrawRoom : Study → Bool
@@ -46,5 +46,4 @@ withoutClaim s c rates = record { window = s .window; taken = s .taken - 1; sums
 
 -- Withdrawing takes study, claim and rates. A refusal gives its number and the study as given
 unfoldable pub withdrawn : Study → Claim → List ℕ → Answer
-withdrawn s c rates =
-    record { refused = withdrawCheck s c rates; study = pick (eqb (withdrawCheck s c rates) 0) (withoutClaim s c rates) s }
+withdrawn s c rates = studyAnswer (withdrawCheck s c rates) s (withoutClaim s c rates)
