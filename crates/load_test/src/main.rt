@@ -86,15 +86,9 @@ fn drawn() {
 
 // Each code of closed claims, and the same draws of open ones.
 fn codes() {
-    show(2, 1, 1);
-    show(3, 1, 1);
-    show(4, 1, 1);
-    show(5, 1, 1);
-    show(6, 1, 1);
-    show(7, 1, 1);
-    show(8, 1, 1);
-    show(9, 1, 1);
-    show(10, 1, 1);
+    for x in 2..11 {
+        show(x, 1, 1);
+    }
 }
 
 fn seeds(size: u32, due: u32) {

@@ -43,13 +43,9 @@ fn of_group(group: u8, terminations: u32, expected: i64) {
 }
 
 fn groups(terminations: u32, expected: i64) {
-    of_group(0, terminations, expected);
-    of_group(1, terminations, expected);
-    of_group(2, terminations, expected);
-    of_group(3, terminations, expected);
-    of_group(4, terminations, expected);
-    of_group(5, terminations, expected);
-    of_group(6, terminations, expected);
+    for group in 0..7 {
+        of_group(group, terminations, expected);
+    }
     of_group(255, terminations, expected);
 }
 
@@ -198,11 +194,9 @@ fn count(group: u8, expected: i64, wanted: u64) {
 }
 
 fn group_counts(expected: i64, wanted: u64) {
-    count(1, expected, wanted);
-    count(2, expected, wanted);
-    count(3, expected, wanted);
-    count(4, expected, wanted);
-    count(5, expected, wanted);
+    for group in 1..6 {
+        count(group, expected, wanted);
+    }
 }
 
 fn wanted_counts(word: &[u8], expected: i64) {
