@@ -49,17 +49,6 @@ sizes (pos a) (pos b) h i = refl
 sizes (pos a) (negsuc b) h i = clash refl i
 sizes (negsuc a) y h i = clash refl h
 
--- the sum of two numbers that are read back from their bits
-module _ (x y : ℤ) (fx : SFits w64 x) (fy : SFits w64 y) (fits : SFits w64 (x +ℤ y)) where
-  operands : toZ w64 (ofZ w64 x) +ℤ toZ w64 (ofZ w64 y) ≡ x +ℤ y
-  operands = ap₂ (λ (a b : ℤ). a +ℤ b) (toZ-ofZ fx) (toZ-ofZ fy)
-
-  sum-fits : SFits w64 (toZ w64 (ofZ w64 x) +ℤ toZ w64 (ofZ w64 y))
-  sum-fits = subst⁻¹ (SFits w64) operands fits
-
-  sum-is : toZ w64 (ofZ w64 (toZ w64 (ofZ w64 x) +ℤ toZ w64 (ofZ w64 y))) ≡ x +ℤ y
-  sum-is = toZ-ofZ sum-fits ∙ operands
-
 module _ (s : tie.Start) where
   abbrev x : ℤ
   x = s .args .one
@@ -73,6 +62,17 @@ module _ (s : tie.Start) where
   fy : SFits w64 y
   fy = s .fits .other
 
+-- their sum, read back from its bits, where 64 signed bits hold it
+module _ (s : tie.Start) (fits : SFits w64 (x s +ℤ y s)) where
+  operands : toZ w64 (ofZ w64 (x s)) +ℤ toZ w64 (ofZ w64 (y s)) ≡ x s +ℤ y s
+  operands = ap₂ (λ (a b : ℤ). a +ℤ b) (toZ-ofZ (fx s)) (toZ-ofZ (fy s))
+
+  sum-fits : SFits w64 (toZ w64 (ofZ w64 (x s)) +ℤ toZ w64 (ofZ w64 (y s)))
+  sum-fits = subst⁻¹ (SFits w64) operands fits
+
+  part-is : (n : ℕ) → n ≡ positive (toZ w64 (ofZ w64 (toZ w64 (ofZ w64 (x s)) +ℤ toZ w64 (ofZ w64 (y s))))) → n ≡ positive (x s +ℤ y s)
+  part-is n e = e ∙ ap positive (toZ-ofZ sum-fits ∙ operands)
+
 returns : tie.Need-returns
 returns c =
     let s = c .before .before in
@@ -84,14 +84,10 @@ fits-2 c =
     mixed (x s) (y s) (rw (toZ-ofZ (fx s)) at (c .before .if1 .taken)) (rw (toZ-ofZ (fy s)) at (c .if2 .left)) (fx s) (fy s)
 
 add-positive-part : tie.Need-add-positive-part
-add-positive-part c =
-    let s = c .before .before in
-    sum-fits (x s) (y s) (fx s) (fy s) (fits-2 c)
+add-positive-part c = sum-fits (c .before .before) (fits-2 c)
 
 returns-2 : tie.Need-returns-2
-returns-2 c =
-    let s = c .before .before .before in
-    c .positive-part .ensures ∙ ap positive (sum-is (x s) (y s) (fx s) (fy s) (fits-2 (c .before)))
+returns-2 c = part-is (c .before .before .before) (fits-2 (c .before)) _ (c .positive-part .ensures)
 
 fits-3 : (c : tie.Then3) → SFits w64 (x (c .before .before) +ℤ y (c .before .before))
 fits-3 c =
@@ -100,14 +96,10 @@ fits-3 c =
     (mixed (y s) (x s) (rw (toZ-ofZ (fy s)) at (c .if3 .taken)) (rw (toZ-ofZ (fx s)) at (c .before .if1 .left)) (fy s) (fx s))
 
 add-positive-part-2 : tie.Need-add-positive-part-2
-add-positive-part-2 c =
-    let s = c .before .before in
-    sum-fits (x s) (y s) (fx s) (fy s) (fits-3 c)
+add-positive-part-2 c = sum-fits (c .before .before) (fits-3 c)
 
 returns-3 : tie.Need-returns-3
-returns-3 c =
-    let s = c .before .before .before in
-    c .positive-part2 .ensures ∙ ap positive (sum-is (x s) (y s) (fx s) (fy s) (fits-3 (c .before)))
+returns-3 c = part-is (c .before .before .before) (fits-3 (c .before)) _ (c .positive-part2 .ensures)
 
 not-negative-x : (c : tie.Else3) → ltZ (x (c .before .before)) (pos 0) ≡ false
 not-negative-x c = rw (toZ-ofZ (fx (c .before .before))) at (c .before .if1 .left)
