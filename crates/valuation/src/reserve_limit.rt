@@ -38,10 +38,11 @@ fn replaced_t(t: [u64; 5], count: u64) -> [u64; 5]
 }
 
 // The checks of one open claim: those of the reserve factor, and after them its duration.
-fn claim_check(rates: &[u32], cell: Cell, duration: u32, months: u32, v: f64) -> u8
-    ensures { λ r. ⌜ r ≡ (reserveCheck (now (rates .entry)) (cell .0) duration months v then check (ltb 24 duration) refuse-open-claims) ⌝ }
+fn claim_check(rates: &[u32], cell: Cell, first: Duration, months: u32, v: f64) -> u8
+    ensures { λ r. ⌜ r ≡ (reserveCheck (now (rates .entry)) (cell .0) (first .0) months v then check (ltb 24 (first .0)) refuse-open-claims) ⌝ }
 {
-    let failed = reserve_check(rates, cell, Duration(duration), months, v);
+    let failed = reserve_check(rates, cell, first, months, v);
+    let duration = first.0;
     if duration <= 24 {
         if failed == 0 {
             return refusal::OPEN_CLAIMS;
@@ -68,9 +69,9 @@ fn with_claim(
         return totals;
     }
     let cell = Cell(list[3 * place]);
-    let duration = list[3 * place + 1];
+    let first = Duration(list[3 * place + 1]);
     let months = list[3 * place + 2];
-    let failed = claim_check(rates, cell, duration, months, v);
+    let failed = claim_check(rates, cell, first, months, v);
     if failed != 0 {
         return Totals {
             refused: failed,
@@ -78,8 +79,8 @@ fn with_claim(
             replaced: 0.0,
         };
     }
-    let given = after(rates, cell, Duration(duration), t, months, v);
-    let replaced = after(rates, cell, Duration(duration), other, months, v);
+    let given = after(rates, cell, first, t, months, v);
+    let replaced = after(rates, cell, first, other, months, v);
     Totals {
         refused: 0,
         given: totals.given + given.sum,

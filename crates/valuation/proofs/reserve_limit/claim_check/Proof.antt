@@ -28,19 +28,19 @@ returns : tie.Need-returns
 returns c =
     let e = c .before .before in
     let s = e .before .before .args in
-    short (e .reserve-check .result) (reserveCheck (s .rates .now) (s .cell .0) (s .duration) (s .months) (s .v)) (s .duration) (e .reserve-check .ensures) (omega arith) (omega arith)
+    short (e .reserve-check .result) (reserveCheck (s .rates .now) (s .cell .0) (s .first .0) (s .months) (s .v)) (s .first .0) (e .reserve-check .ensures) (omega arith) (omega arith)
 
 returns-2 : tie.Need-returns-2
 returns-2 c =
     let e = c .before .before in
     let s = e .before .before .args in
-    failed _ (reserveCheck (s .rates .now) (s .cell .0) (s .duration) (s .months) (s .v)) (s .duration) (e .reserve-check .ensures) (c .if2 .left)
+    failed _ (reserveCheck (s .rates .now) (s .cell .0) (s .first .0) (s .months) (s .v)) (s .first .0) (e .reserve-check .ensures) (c .if2 .left)
 
 returns-3 : tie.Need-returns-3
 returns-3 c =
     let e = c .before in
     let s = e .before .before .args in
-    long _ (reserveCheck (s .rates .now) (s .cell .0) (s .duration) (s .months) (s .v)) (s .duration) (e .reserve-check .ensures) (omega arith)
+    long _ (reserveCheck (s .rates .now) (s .cell .0) (s .first .0) (s .months) (s .v)) (s .first .0) (e .reserve-check .ensures) (omega arith)
 
 pub claim-check-spec : {M : Type 1} → statement M
 claim-check-spec = tie.close (tie.spec (λ c κs. search needs) returns returns-2 returns-3)
