@@ -12,6 +12,9 @@ use calendar::Day;
 use calendar::MaybeDate;
 use claim_months::Claim;
 
+// The last seed: seeds are from 1 on.
+pub const LAST_SEED: u32 = 2147483646;
+
 // A step's claim and the x reached.
 pub struct LoadedClaim {
     pub claim: Claim,
@@ -50,11 +53,11 @@ fn no_date() -> Date
 }
 
 // The date of a day number.
-fn date_on(number: u32) -> Date
-    requires { ⌜ number ≤ lastDayNumber ⌝ }
-    ensures { λ r. ⌜ r ≡ dateOf number ⌝ }
+fn date_on(day: Day) -> Date
+    requires { ⌜ day .0 ≤ lastDayNumber ⌝ }
+    ensures { λ r. ⌜ r ≡ dateOf (day .0) ⌝ }
 {
-    match calendar::date_of_day(Day(number)) {
+    match calendar::date_of_day(day) {
         MaybeDate::Found(date) => date,
         // No day of a load is past the calendar's last.
         MaybeDate::NoDate => no_date(),
@@ -63,15 +66,15 @@ fn date_on(number: u32) -> Date
 
 // The last two draws of a claim, from the x that the third set: what a closed claim ends with, and the x reached. They are made of an open claim
 // too, which has no end.
-fn last_draws(closed: bool, bcd: u32, x: u32) -> Ending
-    requires { ⌜ bcd + 3999 ≤ lastDayNumber ⌝ }
-    ensures { λ r. ⌜ r ≡ endingOf closed bcd x ⌝ }
+fn last_draws(closed: bool, bcd: Day, x: u32) -> Ending
+    requires { ⌜ bcd .0 + 3999 ≤ lastDayNumber ⌝ }
+    ensures { λ r. ⌜ r ≡ endingOf closed (bcd .0) x ⌝ }
 {
     let fourth = draw(x);
     let fifth = draw(fourth);
     if closed {
         return Ending {
-            termination: date_on(bcd + fourth % 4000),
+            termination: date_on(Day(bcd.0 + fourth % 4000)),
             code: 1 + (fifth % 5) as u8,
             x: fifth,
         };
@@ -90,8 +93,8 @@ fn loaded(x: u32, number: u32) -> LoadedClaim
     let first = draw(x);
     let second = draw(first);
     let third = draw(second);
-    let disability = first % 20000;
-    let bcd = disability + (15 + second % 351);
+    let disability = Day(first % 20000);
+    let bcd = Day(disability.0 + (15 + second % 351));
     let status = (third % 2) as u8;
     let end = last_draws(status == 1, bcd, third);
     let termination = end.termination;
@@ -116,7 +119,7 @@ fn is_step(x: u32, size: u32, number: u32) -> bool
     if x < 1 {
         return false;
     }
-    if x > 2147483646 {
+    if x > LAST_SEED {
         return false;
     }
     if size > MOST_CLAIMS {

@@ -28,12 +28,12 @@ module _ (n : ℕ) (h : n ≤ lastDayNumber) (m : MaybeDate) (q : m ≡ dateAt (
 returns : tie.Need-returns
 returns c =
     let a = c .before .before .before .before in
-    found (a .args .number) (a .pre) (c .before .before .before .date-of-day .result) (c .before .before .before .date-of-day .ensures) (c .before .date .given .0 .0) (c .before .date .given .1)
+    found (a .args .day .0) (a .pre) (c .before .before .before .date-of-day .result) (c .before .before .before .date-of-day .ensures) (c .before .date .given .0 .0) (c .before .date .given .1)
 
 returns-2 : tie.Need-returns-2
 returns-2 c =
     let a = c .before .before .before .before in
-    not-found (a .args .number) (a .pre) (c .before .before .before .date-of-day .result) (c .before .before .before .date-of-day .ensures) _ (c .before .enum-told .given .1)
+    not-found (a .args .day .0) (a .pre) (c .before .before .before .date-of-day .result) (c .before .before .before .date-of-day .ensures) _ (c .before .enum-told .given .1)
 
 pub date-on-spec : {M : Type 1} → statement M
 date-on-spec = tie.close (tie.spec (λ c κs. search needs) (λ c. search needs) (λ c. search needs) (λ c κs. search needs) returns returns-2)

@@ -34,21 +34,13 @@ module _ (closed : Bool) (bcd x fourth fifth : ℕ) (p : fourth ≡ draw x) (q :
 
 returns : tie.Need-returns
 returns c =
-    let t = c .before in
-    let e = t .before in
-    let d = e .before in
-    let a = d .before .args in
-    closed-end (a .closed) (a .bcd) (a .x) (d .draw .result) (e .draw2 .result) (d .draw .ensures) (e .draw2 .ensures) _ _ _ (t .if1 .taken) (c .date-on .ensures)
-    (omega arith) (omega arith)
+    let t = c .before .before in
+    closed-end _ _ _ _ _ (t .before .before .draw .ensures) (t .before .draw2 .ensures) _ _ _ (t .if1 .taken) (c .date-on .ensures) (omega arith) (omega arith)
 
 returns-2 : tie.Need-returns-2
 returns-2 c =
     let t = c .before in
-    let e = t .before in
-    let d = e .before in
-    let a = d .before .args in
-    open-end (a .closed) (a .bcd) (a .x) (d .draw .result) (e .draw2 .result) (d .draw .ensures) (e .draw2 .ensures) _ _ _ (t .if1 .left) (c .no-date .ensures)
-    (omega arith) (omega arith)
+    open-end _ _ _ _ _ (t .before .before .draw .ensures) (t .before .draw2 .ensures) _ _ _ (t .if1 .left) (c .no-date .ensures) (omega arith) (omega arith)
 
 pub last-draws-spec : {M : Type 1} → statement M
 last-draws-spec =
