@@ -17,7 +17,8 @@ use Rattle.study.specs.declared.Study.{Study}
 use Rattle.study.specs.declared.Answer.{Answer}
 use Rattle.study.specs.Study.{opened}
 use Rattle.claim_file.specs.declared.FileRun.{FileRun}
-use Rattle.claim_file.specs.Bytes.{byteAt, twoAt, dateFrom, fourAt, zeroFrom}
+use Rattle.claim_file.specs.Bytes.{byteAt, twoAt, dateFrom, zeroFrom}
+use Rattle.claim_file.specs.Record.{claimWith}
 use Rattle.claim_file.specs.Block.{claimCount, blockClaim, framed, windowBlock, blockSound}
 use Rattle.claim_file.specs.Run.{started, goesOn, stops, Adding, partFed, ended, fileRunWith}
 
@@ -27,18 +28,7 @@ pub record Layout : Type 0 where
   pub paddedAt : List ℕ → ℕ → Bool
 
 unfoldable pub withCell : (List ℕ → ℕ → ℕ) → List ℕ → ℕ → Claim
-withCell cellAt bytes i =
-    record {
-      number = fourAt bytes i;
-      disability = dateFrom bytes (i + 4);
-      bcd = dateFrom bytes (i + 8);
-      termination = dateFrom bytes (i + 12);
-      maximum = dateFrom bytes (i + 16);
-      status = byteAt bytes (i + 20);
-      code = byteAt bytes (i + 21);
-      cell = cellAt bytes (i + 22);
-      benefit = 0;
-    }
+withCell cellAt bytes i = claimWith bytes i (cellAt bytes (i + 22)) 0
 
 unfoldable pub beforeFour : Layout
 beforeFour = record { claimAt = withCell byteAt; paddedAt = λ bytes i. zeroFrom bytes (i + 23) 9 }

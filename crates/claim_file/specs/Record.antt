@@ -5,10 +5,9 @@ use mathlib.Core.List.{List, [], _∷_, _++_}
 use Rattle.claim_months.specs.declared.Claim.{Claim}
 use Rattle.claim_file.specs.Bytes.{byteAt, twoAt, fourAt, dateFrom, zeroFrom, dateBytes}
 
--- Claim: number 0–3; disability, BCD, termination, maximum dates at 4, 8, 12, 16; status 20; code 21; cell 22–23 (document 02, No. 4);
--- benefit 24 (document 02, No. 7)
-unfoldable pub claimFrom : List ℕ → ℕ → Claim
-claimFrom bytes i =
+-- Claim: number 0–3; disability, BCD, termination, maximum dates at 4, 8, 12, 16; status 20; code 21. Cell and benefit have changed their bytes
+abbrev pub claimWith : List ℕ → ℕ → ℕ → ℕ → Claim
+claimWith bytes i cell benefit =
     record {
       number = fourAt bytes i;
       disability = dateFrom bytes (i + 4);
@@ -17,9 +16,13 @@ claimFrom bytes i =
       maximum = dateFrom bytes (i + 16);
       status = byteAt bytes (i + 20);
       code = byteAt bytes (i + 21);
-      cell = twoAt bytes (i + 22);
-      benefit = byteAt bytes (i + 24);
+      cell = cell;
+      benefit = benefit;
     }
+
+-- cell 22–23 (document 02, No. 4); benefit 24 (document 02, No. 7)
+unfoldable pub claimFrom : List ℕ → ℕ → Claim
+claimFrom bytes i = claimWith bytes i (twoAt bytes (i + 22)) (byteAt bytes (i + 24))
 
 -- the seven bytes past its fields are zero
 unfoldable pub recordPadded : List ℕ → ℕ → Bool
