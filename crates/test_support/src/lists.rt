@@ -1,10 +1,9 @@
 // Lists of numbers: compared, and rate tables of two cells filled.
 ghost use mathlib.Core.Path.{_≡_};
 ghost use denote.Ref.{now};
-ghost use Rattle.test_support.specs.Lists.{sameList};
+ghost use lib.ListN.{drop, replicate};
+ghost use Rattle.test_support.specs.Lists.{sameList, placesUnlike, allAre, stepTo, filledTable};
 use std::num::wrapping_add_u32;
-use std::num::wrapping_add_u64;
-use std::num::wrapping_sub_u32;
 
 // Whether two lists hold the same numbers.
 pub fn same(a: &[u64], b: &[u64]) -> bool
@@ -24,7 +23,9 @@ pub fn same(a: &[u64], b: &[u64]) -> bool
 }
 
 // In how many places two lists differ, up to the shorter one's end.
-pub fn differences(a: &[u8], b: &[u8]) -> u64 {
+pub fn differences(a: &[u8], b: &[u8]) -> u64
+    ensures { λ r. ⌜ r ≡ placesUnlike (now (a .entry)) (now (b .entry)) ⌝ }
+{
     let mut count = 0;
     let mut i = 0;
     while i < a.len() {
@@ -32,7 +33,7 @@ pub fn differences(a: &[u8], b: &[u8]) -> u64 {
             return count;
         }
         if a[i] != b[i] {
-            count = wrapping_add_u64(count, 1);
+            count += 1;
         }
         i += 1;
     }
@@ -40,7 +41,9 @@ pub fn differences(a: &[u8], b: &[u8]) -> u64 {
 }
 
 // Whether a list from a place on holds one number throughout.
-pub fn throughout(list: &[i32], from: usize, number: i32) -> bool {
+pub fn throughout(list: &[i32], from: usize, number: i32) -> bool
+    ensures { λ r. ⌜ r ≡ allAre number (drop from (now (list .entry))) ⌝ }
+{
     let mut i = from;
     while i < list.len() {
         if list[i] != number {
@@ -59,7 +62,9 @@ pub fn filled(
     first: u32,
     step: u32,
     limit: u32,
-) -> [u32; 1916] {
+) -> [u32; 1916]
+    ensures { λ r. ⌜ r ≡ filledTable table from to first step limit ⌝ }
+{
     let mut after = table;
     let mut number = first;
     let mut i = from;
@@ -74,15 +79,19 @@ pub fn filled(
     after
 }
 
-fn stepped(number: u32, step: u32, limit: u32) -> u32 {
+fn stepped(number: u32, step: u32, limit: u32) -> u32
+    ensures { λ r. ⌜ r ≡ stepTo step limit number ⌝ }
+{
     let next = wrapping_add_u32(number, step);
     if next < limit {
         return next;
     }
-    wrapping_sub_u32(next, limit)
+    next - limit
 }
 
 // A table whose numbers count up from 1.
-pub fn counting() -> [u32; 1916] {
+pub fn counting() -> [u32; 1916]
+    ensures { λ r. ⌜ r ≡ filledTable (replicate 1916 0) 0 1916 1 1 1000000 ⌝ }
+{
     filled([0; 1916], 0, 1916, 1, 1, 1000000)
 }

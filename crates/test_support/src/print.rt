@@ -1,6 +1,6 @@
-// Words and numbers on standard output.
+// Words and numbers on standard output. No contract says what is written there: the programs' output is compared with what is stored.
+use crate::numbers::size_of_bits;
 use libc::STDOUT_FILENO;
-use std::num::wrapping_sub_u64;
 
 pub fn put(text: &[u8]) {
     io::write_all(STDOUT_FILENO, text);
@@ -18,12 +18,10 @@ pub fn put_next(n: u64) {
 
 // A signed number, of which the bits are given.
 pub fn put_signed(bits: u64) {
-    if bits < 9223372036854775808 {
-        put_number(bits);
-    } else {
+    if bits >= 9223372036854775808 {
         put(b"-");
-        put_number(wrapping_sub_u64(0, bits));
     }
+    put_number(size_of_bits(bits));
 }
 
 // A space and a signed number.
