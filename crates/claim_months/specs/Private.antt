@@ -164,6 +164,10 @@ BeginsFor k first r = (c : Claim) → Stands c k → Begins c (first .day .0) (f
 abbrev pub recordsIn : Claim → MonthWindow → List MonthRecord
 recordsIn c w = monthRecords c (w .first .day .0) (w .last .day .0)
 
+-- in the place of the claim month that holds f where there are no months
+abbrev pub noBegin : BeginMonth
+noBegin = record { place = 0; first = asDay 0; before = record { 0 = 0 } }
+
 -- their span and, if there are any, the claim month that holds f
 pub record MonthsFor (k : CheckedClaim) (w : MonthWindow) (m : ExposedMonths) : Type 0 where
   pub span-is : (c : Claim) → Stands c k → m .span ≡ spanOf (recordsIn c w)

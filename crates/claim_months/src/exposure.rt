@@ -4,7 +4,7 @@ ghost use mathlib.Core.List.{[]};
 ghost use Prim.Native.Nat.{_+_, _≤_};
 ghost use Rattle.claim_months.specs.Exposure.{monthB};
 ghost use Rattle.claim_months.specs.Span.{spanOf, spanIn};
-ghost use Rattle.claim_months.specs.Private.{closedOf, laterOf, fromOf, toOf, closingOf, lastUOf, lastCategoryOf, Placed, OfClaim, SoundWindow, BeginsFor, MonthsFor};
+ghost use Rattle.claim_months.specs.Private.{closedOf, laterOf, fromOf, toOf, closingOf, lastUOf, lastCategoryOf, Placed, OfClaim, SoundWindow, BeginsFor, noBegin, MonthsFor};
 use crate::BeginMonth;
 use crate::CheckedClaim;
 use crate::Claim;
@@ -153,6 +153,7 @@ fn last_category(claim: CheckedClaim, window: MonthWindow) -> u8
 // No months in the window.
 fn no_months() -> ExposedMonths
     ensures { λ r. ⌜ r .span ≡ spanOf [] ⌝ }
+    ensures { λ r. ⌜ r .begin ≡ noBegin ⌝ }
 {
     let span = Span {
         first: Duration(0),

@@ -33,10 +33,10 @@ returns : tie.Need-returns
 returns c =
     let t = c .before .before .before .before in
     let w = t .before .before .args .window in
-    let none = ap (λ (sp : Span). sp .months) (c .no-months .ensures) ∙ months-are [] in
+    let none = ap (λ (sp : Span). sp .months) (c .no-months .ensures .0) ∙ months-are [] in
     record {
       span-is = λ d s.
-          c .no-months .ensures
+          c .no-months .ensures .0
           ∙ sym (ap spanOf (records-none d (claim-sound d _ s) (day (w .first)) (day (w .last)) (omega (arith, from (t .before) d s, to t d s))));
       begin-is = λ h. absurd (omega arith);
     }

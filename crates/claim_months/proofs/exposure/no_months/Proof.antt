@@ -7,7 +7,7 @@ use Rattle.claim_months.proofs.exposure.no_months.Tie as tie
 
 returns : tie.Need-returns
 unfolding spanOf
-returns c = refl
+returns c = (refl, refl)
 
 pub no-months-spec : {M : Type 1} → statement M
 no-months-spec = tie.close (tie.spec returns)
