@@ -1,27 +1,30 @@
-"""The wrong versions of tests/wrong-versions/CRATE.txt.
+"""The wrong versions of tests/wrong-versions/CRATE.txt, and the made-up errors of equivalent.txt there, which compute the same.
 
 An entry is a line '# what it is', then 'file:', 'old:' and 'new:' lines as in a must-fail edit; an empty line ends it. A 'file:' line holds for the pairs after
-it. What is swapped, or wrong in two places alike, has several pairs.
+it. What is swapped, or wrong in two places alike, has several pairs. In equivalent.txt '# why it computes the same' is followed by 'crate:', 'file:',
+'function:', and by pairs as the tool prints them: the line, and the line with the error.
 """
 from pathlib import Path
 
 from .version import Change, WrongVersion, one_line
 
+EQUIVALENT = "equivalent.txt"
 
-def entries_of(text):
-    """(what it is, [(file, old, new), ..]) for each entry."""
+
+def entries_of(text, words=("file",)):
+    """(what it is, [(file, old, new), ..]) for each entry; other words than file stand in its place."""
     for number, part in enumerate(text.strip("\n").split("\n\n"), 1):
-        what, file, old, pairs = "", None, None, []
+        what, at, old, pairs = "", {}, None, []
         for line in part.strip("\n").splitlines():
             word, _, rest = line.partition(" ")
             if word == "#":
                 what = (what + " " + rest).strip()
-            elif word == "file:":
-                file = rest
+            elif word[:-1] in words and word[-1] == ":":
+                at[word[:-1]] = rest
             elif word == "old:":
                 old = rest
-            elif word == "new:" and file and old:
-                pairs.append((file, old, rest))
+            elif word == "new:" and len(at) == len(words) and old:
+                pairs.append((*(at[word] for word in words), old, rest))
                 old = None
             else:
                 raise ValueError("entry %d has the line '%s'" % (number, line))
@@ -67,9 +70,27 @@ def folder_of(repo):
     return Path(repo, "tests", "wrong-versions")
 
 
-def listed(repo, crate):
-    path = folder_of(repo) / (crate.name + ".txt")
+def listed_crates(repo):
+    return sorted(path.stem for path in folder_of(repo).glob("*.txt") if path.name != EQUIVALENT)
+
+
+def entries_in(path, *words):
     try:
-        return [version_of(crate, what, pairs) for what, pairs in entries_of(path.read_text())]
+        return list(entries_of(path.read_text(), *words))
     except (OSError, ValueError) as why:
         raise SystemExit("%s: %s" % (path, why))
+
+
+def listed(repo, crate):
+    return [version_of(crate, what, pairs) for what, pairs in entries_in(folder_of(repo) / (crate.name + ".txt"))]
+
+
+def computes_the_same(repo):
+    """The reason by the text of each made-up error in equivalent.txt."""
+    path, reasons = folder_of(repo) / EQUIVALENT, {}
+    for why, texts in entries_in(path, ("crate", "file", "function")) if path.is_file() else []:
+        for text in texts:
+            if text in reasons:
+                raise SystemExit("%s: twice: %s" % (path, " ".join(text)))
+            reasons[text] = why
+    return reasons

@@ -1,8 +1,12 @@
 """Made-up errors in the bodies of a crate's functions. Contracts, comments, constants and types are left.
 
 Each maker takes a crate, a function and the place of a token in its body, and gives (kind, start, end, new) for each error that it makes there.
+
+Two things are left out. A function that answers nothing and is lent nothing to write can have no contract that decides: it prints. And of a table, a match of
+more than 100 arms, whose rows are all read by one computation of the prover, only some errors are made.
 """
 import collections
+import hashlib
 import random
 import re
 
@@ -17,6 +21,7 @@ BEFORE_UNARY = {"(", "[", "{", ",", "=", "return", "<", ">", "<=", ">=", "==", "
 STATEMENT_ENDS = (";", "{", "}")
 NO_STATEMENT = ("let", "if", "while", "for", "match", "loop", "return", "}", "{", "=>", ",", ")", ";")
 NO_CALL = ("return", "in", "if", "while", "else", "as")
+MOST_ARMS, OF_A_TABLE = 100, 20
 
 
 def comparisons(crate, f, k):
@@ -112,8 +117,20 @@ def logic(crate, f, k):
     yield "logic", t.start, t.end, others[t.text]
 
 
+def never(f, a, b):
+    """In the place of the comparison in the tokens from a to b, one that never holds, and reads as much: the proof's text fits it. Or None."""
+    marks = [k for k in range(a, b) if f.tokens[k].text in EDGES]
+    if len(marks) != 1 or plain_before(f, marks[0]) != a or plain_after(f, marks[0]) != b:
+        return None
+    left, right = f.tokens[a:marks[0]], f.tokens[marks[0] + 1:b]
+    text = f.text[left[0].start:left[-1].end]
+    if len(right) == 1 and (right[0].kind == "number" or right[0].text.isupper()):
+        return "%s < 0" % text
+    return "%s < %s" % (text, text) if sum(t.kind == "mark" for t in left) == sum(t.kind == "mark" for t in right) else None
+
+
 def conditions(crate, f, k):
-    """A condition negated; an early return, or all that an if does, left out."""
+    """A condition negated; an early return, or all that an if does, left out: by a condition that never holds, where there is one of the same shape."""
     ts = f.tokens
     if ts[k].text not in ("if", "while") or ts[k + 1].text == "let":
         return
@@ -126,11 +143,12 @@ def conditions(crate, f, k):
     last = closing(ts, body)
     alone = ts[last + 1].text != "else" and ts[k - 1].text in STATEMENT_ENDS and ts[last - 1].text in (";", "}")
     if ts[k].text == "if" and alone:
-        yield "return left out" if ts[body + 1].text == "return" else "if left out", ts[k].start, ts[last].end, ""
+        kind, condition = "return left out" if ts[body + 1].text == "return" else "if left out", never(f, k + 1, body)
+        yield (kind, start, end, condition) if condition else (kind, ts[k].start, ts[last].end, "")
 
 
 def statements(crate, f, k):
-    """A statement left out."""
+    """A statement left out, unless it adds a number: that number plus or minus one is 0 or as wrong."""
     ts = f.tokens
     if ts[k - 1].text not in STATEMENT_ENDS or ts[k].text in NO_STATEMENT or ts[k].kind not in ("name", "mark"):
         return
@@ -138,7 +156,8 @@ def statements(crate, f, k):
     while j < f.last and depth >= 0 and (ts[j].text != ";" or depth):
         depth += deeper(ts[j])
         j += 1
-    if ts[j].text == ";" and depth == 0 and not any(t.text in ("=>", ":") for t in ts[k:min(j, k + 3)]):
+    adds = ts[j - 1].kind == "number" and ts[j - 2].text in ("+=", "-=")
+    if ts[j].text == ";" and depth == 0 and not adds and not any(t.text in ("=>", ":") for t in ts[k:min(j, k + 3)]):
         yield "statement left out", ts[k].start, ts[j].end, ""
 
 
@@ -260,33 +279,53 @@ def line_with(text, start, end, new):
     return one_line(text[a:start] + new + text[end:b])
 
 
-def of_function(crate, f):
-    """Each error once, by its text."""
+def digest(*words):
+    return hashlib.sha256("\n".join(words).encode()).hexdigest()
+
+
+def tables_of(f):
+    """Where a body's tables start and end."""
+    ts = f.tokens
+    for k in range(f.first, f.last):
+        if ts[k].text == "match":
+            opened = next_of(ts, k, "{")
+            closed = closing(ts, opened)
+            if sum(t.text == "=>" for t in ts[opened:closed]) > MOST_ARMS:
+                yield ts[opened].start, ts[closed].end
+
+
+def errors_in(crate, f):
+    """Each error once: its kind by start, end and new text."""
     found = {}
     for k in range(f.first + 1, f.last):
         for maker in MAKERS:
             for kind, start, end, new in maker(crate, f, k):
                 if f.text[start:end] != new:
                     found.setdefault((start, end, new), kind)
-    for (start, end, new), kind in found.items():
-        shown = "line %d: %s  =>  %s" % (f.line(start), line_with(f.text, start, end, f.text[start:end]), line_with(f.text, start, end, new))
-        yield WrongVersion(crate.name, kind, f, [Change(f.file, start, end, new)], shown)
+    for a, b in tables_of(f):
+        rows = sorted((e for e in found if a <= e[0] and e[1] <= b), key=lambda e: digest(f.label, f.text[e[0]:e[1]], e[2]))
+        for error in rows[OF_A_TABLE:]:
+            del found[error]
+    return found
 
 
-def made_up(crate, seed):
-    """All of them, in an order that the seed gives: a round takes one of each function, of the kind that it had least often."""
-    rng, left, had, ordered = random.Random(seed), {}, collections.Counter(), []
-    for f in crate.functions:
-        versions = list(of_function(crate, f))
-        rng.shuffle(versions)
-        if versions:
-            left[f.file + " " + f.label] = versions
-    while left:
-        for key in rng.sample(sorted(left), len(left)):
-            version = min(left[key], key=lambda v: had[(key, v.what)])
-            had[(key, version.what)] += 1
-            left[key].remove(version)
-            ordered.append(version)
-            if not left[key]:
-                del left[key]
-    return ordered
+def of_function(crate, f):
+    """The second error of the same text in a function has (2) behind its line, and so on: a survivor is listed by its text."""
+    times = collections.Counter()
+    for (start, end, new), kind in errors_in(crate, f).items():
+        old, new_line = line_with(f.text, start, end, f.text[start:end]), line_with(f.text, start, end, new)
+        times[old, new_line] += 1
+        nth = times[old, new_line]
+        old += " (%d)" % nth if nth > 1 else ""
+        version = WrongVersion(crate.name, kind, f, [Change(f.file, start, end, new)], "line %d: %s  =>  %s" % (f.line(start), old, new_line))
+        version.text = crate.name, f.file, f.label, old, new_line
+        yield version
+
+
+def made_up(crate):
+    return [version for f in crate.functions if f.can_decide for version in of_function(crate, f)]
+
+
+def in_order(versions, seed):
+    """An order that the seed and each one's text give: a change of one function moves no error of another one."""
+    return sorted(versions, key=lambda v: digest(seed, *v.text))

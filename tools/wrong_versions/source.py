@@ -61,6 +61,8 @@ class Function:
         opened = next_of(tokens, at, "(")
         closed = closing(tokens, opened)
         self.parameters = [p for a, b in split_commas(tokens, opened + 1, closed) for p in self.parameter(a, b)]
+        # A contract can say what it does: it answers something, or is lent something to write.
+        self.can_decide = tokens[closed + 1].text == "->" or any(a.text == "&" and b.text == "mut" for a, b in zip(tokens[opened:closed], tokens[opened + 1:]))
         self.first = body_from(tokens, closed + 1)
         self.last = closing(tokens, self.first) if tokens[self.first].text == "{" else self.first
 

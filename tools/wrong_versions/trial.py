@@ -21,14 +21,15 @@ NO_PROOF = "goal", "it has no proof file, and the prover finds no proof"
 
 
 def errors_of(said):
-    """The errors: [file, line, text with the lines that go on]."""
-    found = []
+    """The errors: [file, line, text with the lines that go on]. The lines that go on behind a note are the note's."""
+    found, goes_on = [], False
     for line in said.splitlines():
         m = ERROR.match(line)
         if m:
             found.append([m["file"], int(m["line"]), m["text"]])
-        elif found and line[:1] in (" ", "\t"):
+        elif goes_on and line[:1] in (" ", "\t"):
             found[-1][2] += "\n" + line
+        goes_on = bool(m) or goes_on and line[:1] in (" ", "\t")
     return found
 
 
@@ -144,3 +145,11 @@ class Trial:
             group = self.group_from(left)
             self.together(group)
             tell(group)
+
+    def some(self, versions, others, number, tell):
+        """Tries all of the first ones, and of the others as many as the number from the start on, not counting those that the compiler refuses."""
+        missing, at = number, 0
+        while versions or missing and at < len(others):
+            self.go(versions + others[at:at + missing], tell)
+            versions, at = [], at + missing
+            missing = number - sum(v.verdict != "invalid" for v in others[:at])

@@ -10,11 +10,12 @@ Change = collections.namedtuple("Change", "file start end new")
 
 
 class WrongVersion:
-    """What is wrong, the changes that make it so, and the function whose body holds them, if one does."""
+    """What is wrong, the changes that make it so, and the function whose body holds them, if one does. A made-up one has the text that it is listed by:
+    crate, file, function, the line and the line with the error."""
 
     def __init__(self, crate, what, function, changes, shown):
         self.crate, self.what, self.function, self.changes, self.shown = crate, what, function, changes, shown
-        self.verdict, self.why = None, ""
+        self.verdict, self.why, self.text = None, "", None
 
     def place(self):
         where = self.changes[0].file if self.changes else "?"
