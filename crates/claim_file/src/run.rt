@@ -1,6 +1,8 @@
 // The file run: blocks 0, 1, 2, .. in order, up to the first refusal.
 ghost use mathlib.Core.Path.{_≡_};
+ghost use mathlib.Core.List.{List};
 ghost use Prim.Native.Nat.{_+_, _-_, _≤_, _<_};
+ghost use lib.IntN.{ℤ};
 ghost use denote.Ref.{now};
 ghost use Rattle.basics.specs.Limits.{block-bytes};
 ghost use Rattle.study.specs.Sums.{none};
@@ -84,6 +86,19 @@ impl LentRun {
             block: 0,
             place: 0,
         }
+    }
+
+    // The run at the end of its file, whatever its sums: one without block 0 is refused 11.
+    pub fn end(self) -> LentRun
+        ensures { λ r. ⌜ ((sums : List ℤ) → runWith r sums ≡ ended (runWith self sums)) ⌝ }
+    {
+        if self.refused != 0 {
+            return self;
+        }
+        if self.due > 0 {
+            return self;
+        }
+        self.stopped(self.taken, refusal::BLOCK, 0)
     }
 
     // The run that it makes up with its sums.

@@ -6,7 +6,6 @@ ghost use lib.ListN.{length};
 ghost use lib.Seq.{sets};
 ghost use Rattle.claim_file.specs.Bytes.{fourAt};
 ghost use Rattle.ltd_study.specs.Input.{blockRates};
-use claim_file::FileRun;
 use claim_file::LentRun;
 use claim_file::run::feed_lent;
 use libc::STDIN_FILENO;
@@ -141,15 +140,14 @@ fn fed_count(filled: Filled) -> usize
 }
 
 // The file run of standard input, block by block. A proved loop has to end, and nothing says that the input does: the loop counts its
-// turns down, from a number that no run uses up. The sums stand here and are lent: a run that had them would be a copy on the stack with each block.
-fn run_input(table: &[u32]) -> FileRun {
-    let mut sums = [0i64; 80];
+// turns down, from a number that no run uses up.
+fn run_input(table: &[u32], sums: &mut [i64; 80]) -> LentRun {
     let mut run = LentRun::start();
     let mut block = [0u8; 512];
     let mut turns = u64::MAX;
     while turns > 0 {
         let count = fed_count(fill_block(STDIN_FILENO, &mut block));
-        run = feed_bytes(run, table, &block, count, &mut sums);
+        run = feed_bytes(run, table, &block, count, sums);
         if run.refused != 0 {
             break;
         }
@@ -158,7 +156,6 @@ fn run_input(table: &[u32]) -> FileRun {
         }
         turns -= 1;
     }
-    let run = run.with_sums(sums);
     run.end()
 }
 
@@ -177,19 +174,19 @@ fn prepare_table(table: &mut [u32; 15329], rates: usize) {
 }
 
 // The file run of standard input under the first numbers of the table.
-fn run_under(table: &[u32; 15329], numbers: usize) -> FileRun
+fn run_under(table: &[u32; 15329], numbers: usize, sums: &mut [i64; 80]) -> LentRun
     requires { ⌜ numbers ≤ 15329 ⌝ }
 {
     let whole: &[u32] = table;
-    run_input(&whole[0..numbers])
+    run_input(&whole[0..numbers], sums)
 }
 
-// The file run of standard input under the rates that a descriptor reads. The descriptor is closed first: with standard input
-// closed it has that number, and the rest of `rates.bin` is no claim file.
-pub fn run_with(fd: i32) -> FileRun {
+// The file run of standard input under the rates that a descriptor reads, its sums lent. The descriptor is closed first: with standard
+// input closed it has that number, and the rest of `rates.bin` is no claim file.
+pub fn run_with(fd: i32, sums: &mut [i64; 80]) -> LentRun {
     let mut table = [0u32; 15329];
     let rates = read_rates(fd, &mut table);
     libc::close(fd);
     prepare_table(&mut table, rates);
-    run_under(&table, rates + 1)
+    run_under(&table, rates + 1, sums)
 }

@@ -8,6 +8,7 @@ mod output;
 
 fn main() {
     let rates = os::open_read(b"rates.bin");
-    let run = input::run_with(rates);
-    output::print_run(run);
+    let mut sums = [0i64; 80];
+    let run = input::run_with(rates, &mut sums);
+    output::print_run(run, &sums);
 }

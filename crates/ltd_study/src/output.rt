@@ -2,7 +2,7 @@
 ghost use Prim.Native.Nat.{_≤_};
 ghost use denote.Ref.{now};
 ghost use lib.ListN.{length};
-use claim_file::FileRun;
+use claim_file::LentRun;
 use libc::STDOUT_FILENO;
 
 // One write; no bytes where it failed.
@@ -26,15 +26,15 @@ fn print_bytes(bytes: &[u8]) {
 }
 
 // Prints a line of a run, 0 to 5.
-fn print_line(run: FileRun, number: u8, line: &mut [u8]) {
-    let count = report::run_line(run, number, line);
+fn print_line(run: LentRun, sums: &[i64; 80], number: u8, line: &mut [u8]) {
+    let count = report::run_line(run, sums, number, line);
     print_bytes(&line[..count]);
 }
 
 // Prints the table of a run's study, or where it was refused.
-pub fn print_run(run: FileRun) {
+pub fn print_run(run: LentRun, sums: &[i64; 80]) {
     let mut line = [0u8; 200];
     for number in 0..6 {
-        print_line(run, number, &mut line);
+        print_line(run, sums, number, &mut line);
     }
 }

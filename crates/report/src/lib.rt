@@ -5,13 +5,14 @@ ghost use Prim.Native.Nat.{_≤_};
 ghost use denote.Ref.{now};
 ghost use lib.ListN.{length};
 ghost use Rattle.io.specs.Counts.{Counts};
-ghost use Rattle.report.specs.Text.{tableHead, groupLine, refusalLine, runLine, lineAnswer, lineAfter};
+ghost use Rattle.claim_file.specs.LentRuns.{runWith};
+ghost use Rattle.report.specs.Text.{tableHead, groupLine, refusalLine, runText, runLine, lineAnswer, lineAfter};
 ghost use Rattle.report.specs.Private.{Put};
 
 mod columns;
 mod puts;
 
-use claim_file::FileRun;
+use claim_file::LentRun;
 use columns::put_factor;
 use columns::put_sums;
 use puts::put_byte;
@@ -82,10 +83,10 @@ pub fn refusal_line(number: u8, block: u32, place: u8, line: &mut [u8]) -> usize
     put_refusal(number, block, place, line)
 }
 
-// Puts a line of what a run prints, 0 to 5, into a list of at least 200 bytes, and answers its length.
-pub fn run_line(run: FileRun, number: u8, line: &mut [u8]) -> usize
-    ensures { λ r. ⌜ r ≡ lineAnswer 200 (now (line .entry)) (runLine run number) ⌝ }
-    ensures { λ _. ⌜ now (line .exit) ≡ lineAfter 200 (now (line .entry)) (runLine run number) ⌝ }
+// Puts a line of what a run prints, 0 to 5, into a list of at least 200 bytes, and answers its length. The run's sums are lent.
+pub fn run_line(run: LentRun, sums: &[i64; 80], number: u8, line: &mut [u8]) -> usize
+    ensures { λ r. ⌜ r ≡ lineAnswer 200 (now (line .entry)) (runLine (runWith run (now (sums .entry))) number) ⌝ }
+    ensures { λ _. ⌜ now (line .exit) ≡ lineAfter 200 (now (line .entry)) (runLine (runWith run (now (sums .entry))) number) ⌝ }
     ensures { λ r. ⌜ Counts r (now (line .exit)) ⌝ }
 {
     if line.len() < 200 {
@@ -103,7 +104,22 @@ pub fn run_line(run: FileRun, number: u8, line: &mut [u8]) -> usize
     if number > 5 {
         return 0;
     }
-    let study = run.study;
-    let sums = study.sums;
-    group_line(&sums, number, line)
+    group_line(sums, number, line)
+}
+
+// Puts all that a run prints into a list of at least 1,200 bytes, and answers its length.
+pub fn run_text(run: LentRun, sums: &[i64; 80], text: &mut [u8]) -> usize
+    ensures { λ r. ⌜ r ≡ lineAnswer 1200 (now (text .entry)) (runText (runWith run (now (sums .entry)))) ⌝ }
+    ensures { λ _. ⌜ now (text .exit) ≡ lineAfter 1200 (now (text .entry)) (runText (runWith run (now (sums .entry)))) ⌝ }
+    ensures { λ r. ⌜ Counts r (now (text .exit)) ⌝ }
+{
+    if text.len() < 1200 {
+        return 0;
+    }
+    let mut at = 0;
+    for number in 0..6 {
+        let end = at + 200;
+        at += run_line(run, sums, number, &mut text[at..end]);
+    }
+    at
 }

@@ -14,4 +14,4 @@ pub run-input-spec : {M : Type 1} → statement M
 run-input-spec =
     tie.close
     (tie.spec Inv-loop μ-loop (λ c κs. search needs) (λ c. tt) (λ c κs. search needs) (λ c κs. search needs) (λ c κs. search needs)
-    (λ c. omega (arith, c .before .before .before .before .before .before .before .before .before .loop-test .taken)) (λ c. omega (arith, c .before .before .before .before .before .before .before .before .before .loop-test .taken)) (λ c. tt) (λ c κs. search needs) (λ c κs. search needs) (λ c. tt))
+    (λ c. omega (arith, c .before .before .before .before .before .before .before .before .before .loop-test .taken)) (λ c. omega (arith, c .before .before .before .before .before .before .before .before .before .loop-test .taken)) (λ c. tt) (λ c κs. search needs) (λ c. tt))

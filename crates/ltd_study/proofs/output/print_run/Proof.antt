@@ -8,10 +8,10 @@ use Rattle.ltd_study.proofs.output.print_run.Statement.{statement}
 use Rattle.ltd_study.proofs.output.print_run.Tie as tie
 
 abbrev Inv-loop : tie.InvT-loop
-Inv-loop run line₀ number₀ line number = (number ≤ 6) × (length line ≡ 200)
+Inv-loop run sums line₀ number₀ line number = (number ≤ 6) × (length line ≡ 200)
 
 abbrev μ-loop : tie.MeasureT-loop
-μ-loop run line₀ number₀ line number = 6 - number
+μ-loop run sums line₀ number₀ line number = 6 - number
 
 loop-holds : tie.Need-loop-holds Inv-loop μ-loop
 loop-holds c = (omega arith, refl)
