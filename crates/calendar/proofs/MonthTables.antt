@@ -2,7 +2,7 @@
 -- Assumes nothing.
 use Prim.Native.Nat.{ℕ, suc, _+_, _-_, _≤_, _<_}
 use mathlib.Core.Path.{_≡_, refl, sym, ap}
-use mathlib.Core.Bool.{true}
+use mathlib.Core.Bool.{true, and-eq-true-iff}
 use native.Mathlib.Omega.{arith}
 use borrow.Author.Tests.{le-leb}
 use lib.Dec.{ltb, eqb}
@@ -58,6 +58,10 @@ only-entry k n l i =
 pub day-is : (d : Date) (n : ℕ) → isDate d ≡ true → n ≡ dayNumber d → known n ≡ dayOf d
 unfolding dayOf
 day-is d n h e = simp (h, e)
+
+pub month-bounds : (i : ℕ) → isMonth i ≡ true → (firstMonth ≤ i) × (i ≤ endMonth)
+unfolding isMonth
+month-bounds i h = let t = simp and-eq-true-iff at h in (omega tests, omega tests)
 
 module _ (i n : ℕ) (h : firstMonth ≤ i) (l : i ≤ endMonth) where
   pub first-is : n ≡ monthStart i → known n ≡ firstDay i

@@ -3,13 +3,13 @@ use Prim.Native.Nat.{ℕ, _+_, _-_}
 use mathlib.Core.Bool.{Bool, _&&_}
 use lib.Dec.{leb}
 use Rattle.calendar.specs.declared.Date.{Date}
-use Rattle.calendar.specs.declared.Day.{Day}
 use Rattle.calendar.specs.declared.MaybeDay.{MaybeDay}
 use Rattle.calendar.specs.declared.MaybeDay.the-variants.{Known, NoDay}
 use Rattle.calendar.specs.declared.MaybeDate.{MaybeDate}
 use Rattle.calendar.specs.declared.MaybeDate.the-variants.{Found, NoDate}
 use Rattle.calendar.specs.declared.MaybeMonth.{MaybeMonth}
 use Rattle.calendar.specs.declared.MaybeMonth.the-variants.{Index, NoMonth}
+use Rattle.basics.specs.declared.Day.{Day}
 use Rattle.basics.specs.Pick.{pick}
 use Rattle.calendar.specs.Calendar.{isDate, dayNumber, dateOf, monthStart, indexLength, monthOf, lastDayNumber, firstMonth, endMonth}
 

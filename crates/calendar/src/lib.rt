@@ -2,7 +2,8 @@
 ghost use mathlib.Core.Path.{_≡_};
 ghost use Prim.Native.Nat.{_+_, _≤_};
 ghost use Rattle.calendar.specs.Calendar.{leapYear, monthLength, isDate, monthOf, lastDayNumber, firstMonth};
-ghost use Rattle.calendar.specs.DayAnswers.{dayOf, dateAt, monthAt, firstDay, lastDay};
+ghost use Rattle.calendar.specs.DayAnswers.{dayOf, dateAt, monthAt, isMonth, firstDay, lastDay};
+pub use basics::Day;
 
 // A calendar date, in the widths of the claim file. Any bit pattern is a value; `is_date` tells which are dates.
 pub struct Date {
@@ -10,9 +11,6 @@ pub struct Date {
     pub month: u8,
     pub day: u8,
 }
-
-// A day number: days since 1950-01-01. A unit of its own.
-pub struct Day(pub u32);
 
 // A day number, or none.
 pub enum MaybeDay {
@@ -97,17 +95,18 @@ pub fn day_number(date: Date) -> MaybeDay
         return MaybeDay::NoDay;
     }
     let months = (date.year as u32 - 1950) * 12 + (date.month as u32 - 1);
-    MaybeDay::Known(Day(month_starts::start(months) + (date.day as u32 - 1)))
+    MaybeDay::Known(Day(month_starts::start(months).0 + (date.day as u32 - 1)))
 }
 
 // The months from January 1950 to the one that holds a day.
-fn month_of(number: u32) -> u32
-    requires { ⌜ number ≤ lastDayNumber ⌝ }
-    ensures { λ r. ⌜ firstMonth + r ≡ monthOf number ⌝ }
+fn month_of(day: Day) -> u32
+    requires { ⌜ day .0 ≤ lastDayNumber ⌝ }
+    ensures { λ r. ⌜ firstMonth + r ≡ monthOf (day .0) ⌝ }
 {
+    let number = day.0;
     // 48 months have 1,461 days, and no month starts 3 days before its share of them: this is the month, or the one after it.
     let guess = 48 * (number + 3) / 1461;
-    if number < month_starts::start(guess) {
+    if number < month_starts::start(guess).0 {
         return guess - 1;
     }
     guess
@@ -121,8 +120,8 @@ pub fn date_of_day(day: Day) -> MaybeDate
     if number > LAST_DAY {
         return MaybeDate::NoDate;
     }
-    let months = month_of(number);
-    let start = month_starts::start(months);
+    let months = month_of(day);
+    let start = month_starts::start(months).0;
     MaybeDate::Found(Date {
         year: (1950 + months / 12) as u16,
         month: (months % 12 + 1) as u8,
@@ -138,35 +137,39 @@ pub fn month_of_day(day: Day) -> MaybeMonth
     if number > LAST_DAY {
         return MaybeMonth::NoMonth;
     }
-    MaybeMonth::Index(FIRST_MONTH + month_of(number))
+    MaybeMonth::Index(FIRST_MONTH + month_of(day))
+}
+
+// Whether an index is that of a month from January 1950 to January 2100.
+fn is_month(index: u32) -> bool
+    ensures { λ r. ⌜ r ≡ isMonth index ⌝ }
+{
+    if index < FIRST_MONTH {
+        return false;
+    }
+    index <= END_MONTH
 }
 
 // The first day of the month with an index.
 pub fn first_day(month: u32) -> MaybeDay
     ensures { λ r. ⌜ r ≡ firstDay month ⌝ }
 {
-    if month < FIRST_MONTH {
+    if !is_month(month) {
         return MaybeDay::NoDay;
     }
-    if month > END_MONTH {
-        return MaybeDay::NoDay;
-    }
-    MaybeDay::Known(Day(month_starts::start(month - FIRST_MONTH)))
+    MaybeDay::Known(month_starts::start(month - FIRST_MONTH))
 }
 
 // The last day of the month with an index.
 pub fn last_day(month: u32) -> MaybeDay
     ensures { λ r. ⌜ r ≡ lastDay month ⌝ }
 {
-    if month < FIRST_MONTH {
-        return MaybeDay::NoDay;
-    }
-    if month > END_MONTH {
+    if !is_month(month) {
         return MaybeDay::NoDay;
     }
     // The table ends with the start of January 2100, which has 31 days.
     if month == END_MONTH {
         return MaybeDay::Known(Day(LAST_DAY + 31));
     }
-    MaybeDay::Known(Day(month_starts::start(month + 1 - FIRST_MONTH) - 1))
+    MaybeDay::Known(Day(month_starts::start(month + 1 - FIRST_MONTH).0 - 1))
 }

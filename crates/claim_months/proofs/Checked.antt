@@ -5,10 +5,10 @@ use mathlib.Core.Path.{_≡_, refl, sym}
 use mathlib.Core.Bool.{Bool, true, false, _&&_, and-eq-true-iff}
 use lib.Dec.{leb, ltb, eqb}
 use borrow.Author.Tests.{le-leb, le-ltb, eqb-true, eqb-false}
+use Rattle.basics.specs.declared.Day.{Day}
 use Rattle.basics.specs.Pick.{pick}
 use Rattle.basics.proofs.Tests.{tests, by}
 use Rattle.calendar.specs.declared.Date.{Date}
-use Rattle.calendar.specs.declared.Day.{Day}
 use Rattle.calendar.specs.declared.MaybeDay.the-variants.{Known, NoDay}
 use Rattle.calendar.specs.Calendar.{isDate, dayNumber, monthIndex, monthLength, monthStart, daysBefore, indexLength, lastDayNumber, firstMonth, endMonth}
 use Rattle.calendar.specs.DayAnswers.{dayOf, isMonth, firstDay, lastDay}

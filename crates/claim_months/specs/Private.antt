@@ -6,10 +6,10 @@ use mathlib.Core.List.{List, _++_}
 use lib.Dec.{leb, ltb, eqb}
 use lib.IntN.{ℤ}
 use lib.ListN.{length, drop}
+use Rattle.basics.specs.declared.Day.{Day}
 use Rattle.basics.specs.Pick.{pick}
 use Rattle.basics.specs.Checks.{refuse-short-list}
 use Rattle.calendar.specs.declared.Date.{Date}
-use Rattle.calendar.specs.declared.Day.{Day}
 use Rattle.calendar.specs.declared.MaybeDay.{MaybeDay}
 use Rattle.calendar.specs.declared.MaybeDay.the-variants.{Known, NoDay}
 use Rattle.calendar.specs.Calendar.{dayNumber, monthIndex, monthLength, monthStart, indexLength, monthOf, lastDayNumber}

@@ -3,14 +3,15 @@ ghost use mathlib.Core.Path.{_≡_};
 ghost use lib.ListN.{getD};
 ghost use Rattle.month_starts.specs.MonthStarts.{monthStarts};
 ghost use Rattle.month_starts.specs.Private.{rowAt};
+use basics::Day;
 
 // The day number at which a month starts, by the months from January 1950 to it; 0 past January 2100.
-pub fn start(month: u32) -> u32
-    ensures { λ r. ⌜ r ≡ getD monthStarts month 0 ⌝ }
+pub fn start(month: u32) -> Day
+    ensures { λ r. ⌜ r .0 ≡ getD monthStarts month 0 ⌝ }
 {
     let starts = row(month / 4);
     let place = (month % 4) as usize;
-    starts[place] as u32
+    Day(starts[place] as u32)
 }
 
 // Four entries of the table. Rows 3 × y to 3 × y + 2 have the months of the year 1950 + y; row 450 has January 2100 alone.

@@ -4,10 +4,10 @@ use Prim.Native.Nat.{ℕ, _<_, _≤_}
 use mathlib.Core.Path.{_≡_, refl, sym, ap, _∙_}
 use mathlib.Core.Bool.{true, false, false≢true}
 use borrow.Author.Tests.{le-leb, lt-leb}
+use Rattle.basics.specs.declared.Day.{Day}
 use Rattle.basics.specs.Pick.{pick}
 use Rattle.basics.proofs.Tests.{tests, by}
 use Rattle.calendar.specs.declared.Date.{Date}
-use Rattle.calendar.specs.declared.Day.{Day}
 use Rattle.calendar.specs.declared.MaybeDay.the-variants.{Known, NoDay}
 use Rattle.calendar.specs.Calendar.{isDate, dayNumber}
 use Rattle.calendar.specs.DayAnswers.{known, dayOf}

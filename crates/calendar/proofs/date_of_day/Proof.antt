@@ -38,17 +38,17 @@ parts n m s h e f =
       date = same-date _ (dateIn m n) (omega arith) (omega arith) (omega arith) ∙ date-in n m h e;
     }
 
-found : (c : tie.After-start) → Parts (c .before .before .before .args .day .0) (c .before .month-of .result) (c .start .result)
+found : (c : tie.After-start) → Parts (c .before .before .before .args .day .0) (c .before .month-of .result) (c .start .result .0)
 found c = parts (c .before .before .before .args .day .0) _ _ (omega arith) (c .before .month-of .ensures) (c .start .ensures)
 
-cast-t8 : tie.Need-cast-t8
-cast-t8 c = omega (arith, found c .year-high)
+cast-t9 : tie.Need-cast-t9
+cast-t9 c = omega (arith, found c .year-high)
 
-sub-t12 : tie.Need-sub-t12
-sub-t12 c = found c .start
+sub-t13 : tie.Need-sub-t13
+sub-t13 c = found c .start
 
-cast-t14 : tie.Need-cast-t14
-cast-t14 c = omega (arith, found c .day-high)
+cast-t15 : tie.Need-cast-t15
+cast-t15 c = omega (arith, found c .day-high)
 
 returns-2 : tie.Need-returns-2
 unfolding dateAt
@@ -57,5 +57,5 @@ returns-2 c = simp (le-leb (c .before .before .before .args .day .0) lastDayNumb
 pub date-of-day-spec : {M : Type 1} → statement M
 date-of-day-spec =
     tie.close
-    (tie.spec returns (λ c κs. search needs) (λ c κs. search needs) (λ c. search needs) cast-t8 (λ c. search needs) (λ c. search needs) sub-t12
-    (λ c. search needs) cast-t14 returns-2)
+    (tie.spec returns (λ c κs. search needs) (λ c κs. search needs) (λ c. search needs) cast-t9 (λ c. search needs) (λ c. search needs) sub-t13
+    (λ c. search needs) cast-t15 returns-2)

@@ -38,27 +38,27 @@ sub-months c = bounds (c .before) .year-low
 sub-months-2 : tie.Need-sub-months-2
 sub-months-2 c = bounds (c .before .before) .month-low
 
-sub-t8 : tie.Need-sub-t8
-sub-t8 c = omega (arith, bounds (c .before .before .before .before))
+sub-t9 : tie.Need-sub-t9
+sub-t9 c = omega (arith, bounds (c .before .before .before .before))
 
-abbrev given : tie.After-struct-known3 → Date
-given c = c .before .before .before .before .before .before .args .date
+abbrev given : tie.After-struct-known4 → Date
+given c = c .before .before .before .before .before .before .before .args .date
 
 -- the day number and its bound at the last step
-numbered : (c : tie.After-struct-known3) → c .before .start .result + (given c .day - 1) ≡ dayNumber (given c)
+numbered : (c : tie.After-struct-known4) → c .before .before .start .result .0 + (given c .day - 1) ≡ dayNumber (given c)
 unfolding monthIndex
 numbered c =
-    let b = bounds (c .before .before .before .before) in
-    number (given c) _ _ (c .before .start .ensures) b (omega arith)
+    let b = bounds (c .before .before .before .before .before) in
+    number (given c) _ _ (c .before .before .start .ensures) b (omega arith)
 
-add-t7 : tie.Need-add-t7
-add-t7 c = omega (arith, numbered c, day-last _ (dated (c .before .before .before .before)))
+add-t8 : tie.Need-add-t8
+add-t8 c = omega (arith, numbered c, day-last _ (dated (c .before .before .before .before .before)))
 
 returns-2 : tie.Need-returns-2
-returns-2 c = day-is (given c) _ (dated (c .before .before .before .before)) (omega (arith, numbered c))
+returns-2 c = day-is (given c) _ (dated (c .before .before .before .before .before)) (omega (arith, numbered c))
 
 pub day-number-spec : {M : Type 1} → statement M
 day-number-spec =
     tie.close
     (tie.spec (λ c κs. search needs) returns (λ c. search needs) sub-months (λ c. search needs) (λ c. search needs) sub-months-2 (λ c. search needs)
-    (λ c κs. search needs) (λ c. search needs) sub-t8 add-t7 returns-2)
+    (λ c κs. search needs) (λ c. search needs) sub-t9 add-t8 returns-2)

@@ -57,13 +57,13 @@ met n s h e l =
     omega arith
 
 sub-result : tie.Need-sub-result
-sub-result c = over (c .before .before .args .number) (c .before .start .result) (c .before .before .pre) (c .before .start .ensures) (omega arith) .0
+sub-result c = over (c .before .before .before .args .day .0) (c .before .before .start .result .0) (c .before .before .before .pre) (c .before .before .start .ensures) (omega arith) .0
 
 returns : tie.Need-returns
-returns c = over (c .before .before .args .number) (c .before .start .result) (c .before .before .pre) (c .before .start .ensures) (omega arith) .1
+returns c = over (c .before .before .before .args .day .0) (c .before .before .start .result .0) (c .before .before .before .pre) (c .before .before .start .ensures) (omega arith) .1
 
 returns-2 : tie.Need-returns-2
-returns-2 c = met (c .before .before .args .number) (c .before .start .result) (c .before .before .pre) (c .before .start .ensures) (omega arith)
+returns-2 c = met (c .before .before .before .args .day .0) (c .before .before .start .result .0) (c .before .before .before .pre) (c .before .before .start .ensures) (omega arith)
 
 pub month-of-spec : {M : Type 1} → statement M
 month-of-spec =

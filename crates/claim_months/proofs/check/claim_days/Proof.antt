@@ -3,10 +3,10 @@
 use mathlib.Core.Path.{_≡_, refl, _∙_}
 use mathlib.Core.Bool.{Bool, true, false, not, _||_, and-false}
 use Prim.Native.Nat.{ℕ}
+use Rattle.basics.specs.declared.Day.{Day}
 use Rattle.basics.specs.Pick.{pick}
 use Rattle.basics.proofs.Tests.{tests}
 use Rattle.calendar.specs.declared.Date.{Date}
-use Rattle.calendar.specs.declared.Day.{Day}
 use Rattle.calendar.specs.declared.MaybeDay.the-variants.{Known, NoDay}
 use Rattle.calendar.specs.Calendar.{isDate, dayNumber}
 use Rattle.calendar.specs.DayAnswers.{known, dayOf}

@@ -8,7 +8,7 @@ use native.Mathlib.Omega.{arith}
 use lib.IntN.{ℤ}
 use lib.ListN.{length, drop}
 use lib.Seq.{sets}
-use Rattle.calendar.specs.declared.Day.{Day}
+use Rattle.basics.specs.declared.Day.{Day}
 use Rattle.calendar.specs.Calendar.{lastDayNumber, firstMonth}
 use Rattle.claim_months.specs.declared.CheckedClaim.{CheckedClaim}
 use Rattle.claim_months.specs.declared.Claim.{Claim}

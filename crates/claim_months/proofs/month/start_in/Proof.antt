@@ -4,7 +4,7 @@ use Prim.Native.Nat.{ℕ, _+_, _-_}
 use mathlib.Core.Path.{_≡_, ap, _∙_}
 use mathlib.Core.Bool.{true, false}
 use native.Mathlib.Omega.{arith}
-use Rattle.calendar.specs.declared.Day.{Day}
+use Rattle.basics.specs.declared.Day.{Day}
 use Rattle.calendar.specs.Calendar.{monthStart, indexLength}
 use Rattle.calendar.proofs.Laws.{index-length-low, months-rise, end-month}
 use Rattle.claim_months.specs.declared.CheckedClaim.{CheckedClaim}
