@@ -1,9 +1,7 @@
 // Studies that no opening made, at the edges of the checks 1 and 9, and the order of the checks.
 ghost use Prim.Native.Nat.{_+_, _≤_, _<_};
 use crate::claims::claim;
-use crate::figures::figures;
-use crate::figures::put_groups;
-use crate::figures::same_study;
+use crate::figures::put_answer;
 use calendar::Day;
 use claim_months::Window;
 use study::Study;
@@ -124,20 +122,7 @@ pub(crate) fn full() -> Study {
 
 // Adds a claim, and prints the answer and whether the study came back as it was.
 fn show(before: Study, place: u32, table: &[u32]) {
-    let answer = before.add(claim(place), table);
-    let after = answer.study;
-    put(b" refused");
-    put_next(answer.refused as u64);
-    if same_study(before, after) {
-        put(b" unchanged taken");
-    } else {
-        put(b" changed taken");
-    }
-    put_next(after.taken as u64);
-    put(b"\n");
-    if answer.refused == 0 {
-        put_groups(&figures(after));
-    }
+    put_answer(before, before.add(claim(place), table));
 }
 
 fn windows(table: &[u32; 1916]) {

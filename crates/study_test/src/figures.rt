@@ -1,10 +1,12 @@
 // The sums of one set of a study as a list of 64-bit numbers, a negative one as 2^64 more: eight for each group, the groups in order.
 ghost use Prim.Native.Nat.{_≤_, _<_};
 use std::num::wrapping_add_u64;
+use study::Answer;
 use study::Study;
 use test_support::lists::same;
 use test_support::numbers::bits;
 use test_support::print::put;
+use test_support::print::put_next;
 use test_support::print::put_next_signed;
 use test_support::print::put_number;
 
@@ -78,4 +80,21 @@ pub(crate) fn put_groups(figures: &[u64; 40]) {
     put_group(figures, 2);
     put_group(figures, 3);
     put_group(figures, 4);
+}
+
+// What an addition or a withdrawal answers: the number refused, whether the study came back as it was, and its sums by count unless it was refused.
+pub(crate) fn put_answer(before: Study, answer: Answer) {
+    let after = answer.study;
+    put(b" refused");
+    put_next(answer.refused as u64);
+    if same_study(before, after) {
+        put(b" unchanged taken");
+    } else {
+        put(b" changed taken");
+    }
+    put_next(after.taken as u64);
+    put(b"\n");
+    if answer.refused == 0 {
+        put_groups(&figures(after));
+    }
 }

@@ -5,6 +5,7 @@ use crate::edges::given;
 use crate::edges::made;
 use crate::edges::with_sum;
 use crate::figures::figures;
+use crate::figures::put_answer;
 use crate::figures::put_groups;
 use crate::figures::same_study;
 use crate::figures::weighted_figures;
@@ -104,19 +105,9 @@ fn moves(table: &[u32; 1916]) {
 fn show(name: &[u8], before: Study, back: Claim, table: &[u32]) {
     put(name);
     let answer = before.withdraw(back, table);
-    let after = answer.study;
-    put(b" refused");
-    put_next(answer.refused as u64);
-    if same_study(before, after) {
-        put(b" unchanged taken");
-    } else {
-        put(b" changed taken");
-    }
-    put_next(after.taken as u64);
-    put(b"\n");
+    put_answer(before, answer);
     if answer.refused == 0 {
-        put_groups(&figures(after));
-        put_groups(&weighted_figures(after));
+        put_groups(&weighted_figures(answer.study));
     }
 }
 
