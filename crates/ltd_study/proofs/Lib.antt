@@ -1,2 +1,4 @@
--- `Rates`: the rates of a block, one after another.
+-- `Answers`: what reads answer. `Rates`: the rates of `rates.bin`, some bytes at a time. `Runs`: the run of standard input, and its text.
+pub mod Answers
 pub mod Rates
+pub mod Runs

@@ -1,2 +1,3 @@
--- `Input`: the rates of a block of `rates.bin`.
+-- `Input`: `rates.bin`, the claim file and what is printed of them. `Private`: what only private functions' contracts need.
 pub mod Input
+pub mod Private

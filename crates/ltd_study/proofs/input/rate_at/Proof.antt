@@ -6,8 +6,8 @@ use Rattle.ltd_study.proofs.input.rate_at.Tie as tie
 
 returns : tie.Need-returns
 returns c =
-    let s = c .before .before .before .before .before .before .before .before .args in
-    four-from (s .block .now) (s .at) _ _ _ _ (c .before .before .before .before .before .before .wide .ensures .0) (c .before .before .before .before .wide2 .ensures .0) (c .before .before .wide3 .ensures .0)
+    let s = c .before .before .before .before .before .before .before .before .before .args in
+    four-from (s .bytes .now) (s .at) _ _ _ _ (c .before .before .before .before .before .before .wide .ensures .0) (c .before .before .before .before .wide2 .ensures .0) (c .before .before .wide3 .ensures .0)
     (c .wide4 .ensures .0)
 
 pub rate-at-spec : {M : Type 1} → statement M

@@ -1,17 +1,19 @@
--- `ltd_study::input::run_input` is safe and ends. The measure is the number of turns that are left. Assumes nothing.
+-- `ltd_study::input::run_input` meets its contract. Assumes nothing.
 use native.Mathlib.Omega.{arith}
 use borrow.Author.Needs.{needs}
+use Rattle.claim_file.specs.LentRuns.{runWith}
+use Rattle.ltd_study.proofs.Runs.{fed-ended}
 use Rattle.ltd_study.proofs.input.run_input.Statement.{statement}
 use Rattle.ltd_study.proofs.input.run_input.Tie as tie
 
-abbrev Inv-loop : tie.InvT-loop
-Inv-loop table sums₀ run₀ block₀ turns₀ sums run block turns = Unit {0}
+feed-input-requires : tie.Need-feed-input-requires
+feed-input-requires c κs = c .before .before .before .before .pre
 
-abbrev μ-loop : tie.MeasureT-loop
-μ-loop table sums₀ run₀ block₀ turns₀ sums run block turns = turns
+returns : tie.Need-returns
+returns c =
+    let f = c .before .before .before in
+    let sums = f .feed-input .last .1 .0 in
+    fed-ended (f .before .before .before .before .before .args .table .now) (runWith (f .feed-input .result) sums) (runWith (c .end .result) sums) (f .feed-input .ensures) (c .end .ensures sums)
 
 pub run-input-spec : {M : Type 1} → statement M
-run-input-spec =
-    tie.close
-    (tie.spec Inv-loop μ-loop (λ c κs. search needs) (λ c. tt) (λ c κs. search needs) (λ c κs. search needs) (λ c κs. search needs)
-    (λ c. omega (arith, c .before .before .before .before .before .before .before .before .before .loop-test .taken)) (λ c. omega (arith, c .before .before .before .before .before .before .before .before .before .loop-test .taken)) (λ c. tt) (λ c κs. search needs) (λ c. tt))
+run-input-spec = tie.close (tie.spec feed-input-requires (λ c κs. search needs) (λ c. search needs) returns)
