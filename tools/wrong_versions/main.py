@@ -69,7 +69,7 @@ def line_of(v):
     return "%s: %s [%s] %s" % (v.verdict.upper(), v.place(), v.what, v.shown) + why
 
 
-def done(repo, work, tell):
+def go(repo, work, tell):
     prover = Prover(repo, work.crate.name)
     try:
         prover.prepare()
@@ -99,7 +99,7 @@ def works_of(given):
     chosen = collections.Counter(v.crate for v in (union if given.all else union[:given.sample or 0]))
     for work in works:
         work.number = chosen[work.crate.name]
-    return sorted((work for work in works if work.size()), key=lambda work: -work.size())
+    return works
 
 
 def stale(given, works, reasons):
@@ -139,8 +139,9 @@ def main():
         return 2
     works, reasons = works_of(given), computes_the_same(given.repo)
     gone = stale(given, works, reasons)
+    works = sorted((work for work in works if work.size()), key=lambda work: -work.size())
     dependencies_proved(given.repo, [work.crate.name for work in works])
     tell = teller(reasons)
     with ThreadPoolExecutor(AT_ONCE) as pool:
-        list(pool.map(lambda work: done(given.repo, work, tell), works))
+        list(pool.map(lambda work: go(given.repo, work, tell), works))
     return 0 if counted(works, gone) else 1

@@ -51,9 +51,12 @@ class Prover:
         return [str(word) for word in words + ["--incremental", self.copy / "inc"]]
 
     def prepare(self):
-        """Proves the crate as it is, and keeps the prover's incremental folder. What it depends on has been proved: see dependencies_proved."""
+        """Proves the crate as it is, and keeps the prover's incremental folder; what `rt dev` has kept of the crate is a start. What it depends on has been
+        proved: see dependencies_proved."""
         shutil.rmtree(self.kept, ignore_errors=True)
         self.kept.mkdir(parents=True)
+        if (self.target / "inc" / self.crate).is_dir():
+            shutil.copytree(self.target / "inc" / self.crate, self.kept, dirs_exist_ok=True)
         status, said = self.run([])
         if status != 0 or "logic=proved" not in said:
             raise SystemExit("%s isn't proved as it is:\n%s" % (self.crate, said[-2000:]))
