@@ -130,7 +130,7 @@ def never(f, a, b):
 
 
 def conditions(crate, f, k):
-    """A condition negated; an early return, or all that an if does, left out: by a condition that never holds, where there is one of the same shape."""
+    """A condition negated; an early return, or all that an if does, left out: by a condition that never holds, where there is one that the proof's text fits."""
     ts = f.tokens
     if ts[k].text not in ("if", "while") or ts[k + 1].text == "let":
         return
@@ -143,8 +143,9 @@ def conditions(crate, f, k):
     last = closing(ts, body)
     alone = ts[last + 1].text != "else" and ts[k - 1].text in STATEMENT_ENDS and ts[last - 1].text in (";", "}")
     if ts[k].text == "if" and alone:
-        kind, condition = "return left out" if ts[body + 1].text == "return" else "if left out", never(f, k + 1, body)
-        yield (kind, start, end, condition) if condition else (kind, ts[k].start, ts[last].end, "")
+        condition = never(f, k + 1, body)
+        if condition:
+            yield "return left out" if ts[body + 1].text == "return" else "if left out", start, end, condition
 
 
 def statements(crate, f, k):
