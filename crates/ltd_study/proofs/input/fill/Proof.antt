@@ -22,7 +22,7 @@ read-some-requires : tie.Need-read-some-requires Inv-loop μ-loop
 read-some-requires c κs = tt
 
 returns : tie.Need-returns Inv-loop μ-loop
-returns c = record { within = omega arith; full = λ q. both q; short = λ q. omega arith }
+returns c = record { within = omega arith; full = λ q. both q; left = λ q. omega arith; short = λ q. omega arith }
 
 add-done : tie.Need-add-done Inv-loop μ-loop
 add-done c = omega arith
@@ -37,7 +37,7 @@ same-length-2 : tie.Need-same-length-2 Inv-loop μ-loop
 same-length-2 c = c .before .loop .inv .1
 
 returns-2 : tie.Need-returns-2 Inv-loop μ-loop
-returns-2 c = record { within = omega arith; full = λ q. omega arith; short = λ q. both (sym q) }
+returns-2 c = record { within = omega arith; full = λ q. omega arith; left = λ q. both (sym q); short = λ q. both (sym q) }
 
 pub fill-spec : {M : Type 1} → statement M
 fill-spec =
