@@ -23,6 +23,8 @@ pub mod study;
 pub mod valuation;
 
 #[cfg(feature = "first")]
+pub mod earlier;
+#[cfg(feature = "first")]
 pub mod ffi;
 
 /// The refusals of document 01's table and document 02's requests, under their numbers.

@@ -1,9 +1,15 @@
 //! Measures the engine beside the second implementation: bench DIR PROGRAM SECOND_PROGRAM [CLAIMS]. What is compared takes turns over one
 //! claim file, and the best of five turns counts. The load stays in DIR as claims.bin and rates.bin.
 //!
-//! Prints five tables: the speed of the calls in memory, of the programs, and of `cat` as the floor; the shape of the cost; what the walk
-//! over a claim's months costs early and late in the calendar; the calls that have a cost of their own; and what corrections cost.
+//! Prints seven tables: the speed of the calls in memory, of the programs, and of `cat` as the floor; the shape of the cost; what the walk
+//! over a claim's months costs early and late in the calendar; the calls that have a cost of their own; what an addition costs; what
+//! corrections cost; and the bars, each with the figure that is held to it. The status is 1 where one falls short. LTD_EARLIER names the
+//! shared library of an earlier build, whose `ltd_add` is measured in the same run.
 
+mod additions;
+mod bars;
+
+use bars::{Asked, Bars};
 use second::block::{claim_record, BLOCK_LENGTH, CLAIM_LENGTH, RECORDS_LENGTH};
 use second::calendar::Date;
 use second::claim::{Claim, CLOSED, SETTLEMENT};
@@ -45,15 +51,27 @@ fn main() {
         eprintln!("usage: bench DIR PROGRAM SECOND_PROGRAM [CLAIMS, 8 to 500,000]");
         exit(2);
     };
-    let measured = speed(Path::new(&arguments[0]), &arguments[1], &arguments[2], count)
-        .and_then(|()| shape(count))
-        .and_then(|()| walk())
-        .and_then(|()| calls(count))
-        .and_then(|()| corrections());
-    if let Err(wrong) = measured {
-        eprintln!("bench: {wrong}");
-        exit(1);
+    match measured(&arguments, count) {
+        Ok(true) => {}
+        Ok(false) => exit(1),
+        Err(wrong) => {
+            eprintln!("bench: {wrong}");
+            exit(2);
+        }
     }
+}
+
+/// Prints all tables; whether every bar is met.
+fn measured(arguments: &[String], count: usize) -> Result<bool, String> {
+    let earlier = env::var("LTD_EARLIER").ok();
+    let mut bars = Bars::default();
+    speed(Path::new(&arguments[0]), &arguments[1], &arguments[2], count, &mut bars)?;
+    shape(count, &mut bars)?;
+    walk(&mut bars)?;
+    calls(count)?;
+    additions::additions(earlier.as_deref(), &mut bars)?;
+    corrections(&mut bars)?;
+    Ok(bars.print())
 }
 
 /// A claim file and its rates, with the numbers that every run over it must give.
@@ -131,7 +149,7 @@ fn best<const N: usize>(turns: usize, runs: [&dyn Fn() -> Timed; N]) -> Result<[
     Ok(best)
 }
 
-fn speed(dir: &Path, program: &str, second_program: &str, count: usize) -> Result<(), String> {
+fn speed(dir: &Path, program: &str, second_program: &str, count: usize, bars: &mut Bars) -> Result<(), String> {
     let load = Load::new(count, CELLS, NINE_YEARS);
     for (name, bytes) in [("claims.bin", &load.file), ("rates.bin", &encode_rates(&load.rates))] {
         fs::write(dir.join(name), bytes).map_err(|error| format!("{name}: {error}"))?;
@@ -158,11 +176,13 @@ fn speed(dir: &Path, program: &str, second_program: &str, count: usize) -> Resul
     row("the program", first_process, second_process, "the second program's time");
     row("the second implementation's program", second_process, first_process, "the program's");
     row("`cat` of the file", cat, first_process, "the program's");
+    bars.hold("second / engine, in memory", second / engine, Asked::AtLeast(4.0));
+    bars.hold("second program / program", second_process / first_process, Asked::AtLeast(3.0));
     Ok(())
 }
 
 /// How the time in memory grows with the window, the number of claims and the number of cells.
-fn shape(count: usize) -> Result<(), String> {
+fn shape(count: usize, bars: &mut Bars) -> Result<(), String> {
     println!("\n| claims | cells | window | months | engine | a claim | a month | second | a claim | a month | engine / second |");
     println!("|---|---|---|---|---|---|---|---|---|---|---|");
     let shapes = [
@@ -175,13 +195,17 @@ fn shape(count: usize) -> Result<(), String> {
         (count, 1, "nine years", NINE_YEARS),
         (count, MOST_CELLS, "nine years", NINE_YEARS),
     ];
+    let mut times = Vec::new();
     for (count, cells, years, window) in shapes {
-        shape_row(count, cells, years, &Load::new(count, cells, window))?;
+        times.push(shape_row(count, cells, years, &Load::new(count, cells, window))?);
     }
-    shape_row(count, 1, "nine years, the drawn load", &Load::of(DrawnLoad::new(count).file, rates(SEED, 1)))
+    shape_row(count, 1, "nine years, the drawn load", &Load::of(DrawnLoad::new(count).file, rates(SEED, 1)))?;
+    bars.hold("150 years / one year", times[2] / times[0], Asked::AtMost(1.4));
+    Ok(())
 }
 
-fn shape_row(count: usize, cells: usize, years: &str, load: &Load) -> Result<(), String> {
+/// Prints a row; the engine's time.
+fn shape_row(count: usize, cells: usize, years: &str, load: &Load) -> Timed {
     let [engine, second] = best(TURNS, [&|| load.engine(), &|| load.second()])?;
     let cost = |seconds: f64| {
         let (claim, month) = (seconds * 1e9 / count as f64, seconds * 1e9 / load.months());
@@ -190,7 +214,7 @@ fn shape_row(count: usize, cells: usize, years: &str, load: &Load) -> Result<(),
     let [claims, cells, months] = [count as f64, cells as f64, load.months()].map(grouped);
     let (engine_cost, second_cost) = (cost(engine), cost(second));
     println!("| {claims} | {cells} | {years} | {months} | {engine_cost} | {second_cost} | {:.3} |", engine / second);
-    Ok(())
+    Ok(engine)
 }
 
 const WALKS: usize = 10_000;
@@ -249,16 +273,17 @@ impl Walked {
 }
 
 /// The months of a claim closed in its second year, at the start of the calendar and at its end.
-fn walk() -> Result<(), String> {
+fn walk(bars: &mut Bars) -> Result<(), String> {
     let (early, late) = (Walked::new(1950), Walked::new(2098));
     println!("\nEP 30, in the window 1950-01-01 to 2099-12-31, best of {SHORT_TURNS} turns:\n");
     println!(
         "| calls | BCD 1950-02-10, settled 1951-12-20 | BCD 2098-02-10, settled 2099-12-20 | ratio (at most 2 asked, 1.2 our own bar) |"
     );
     println!("|---|---|---|---|");
-    let row = |calls: &str, run: fn(&Walked) -> Timed| {
+    let mut row = |calls: &str, run: fn(&Walked) -> Timed| {
         let [early, late] = best(SHORT_TURNS, [&|| run(&early), &|| run(&late)])?;
         println!("| {} {calls} | {:.3} ms | {:.3} ms | {:.3} |", grouped(WALKS as f64), early * 1e3, late * 1e3, early / late);
+        bars.hold(&format!("No. 2, {calls} early / late"), early / late, Asked::AtMost(2.0));
         Ok(())
     };
     row("listings", Walked::listings).and_then(|()| row("additions", Walked::additions))
@@ -384,10 +409,10 @@ impl Corrected {
         Corrected { file: claim_file(NINE_YEARS, &claims, None), rates: rates(SEED, CELLS) }
     }
 
-    fn engine(&self, run: fn(&[u8], &[u32], &mut [i64]) -> u8, wanted: &[i64; RUN_LENGTH]) -> Timed {
+    fn engine(&self, run: fn(&[u8], &[u32], &mut [i64]) -> u8, rates: &[u32], wanted: &[i64; RUN_LENGTH]) -> Timed {
         let mut out = [0; RUN_LENGTH];
         let begin = Instant::now();
-        run(black_box(&self.file), black_box(&self.rates), &mut out);
+        run(black_box(&self.file), black_box(rates), &mut out);
         let seconds = begin.elapsed().as_secs_f64();
         if out == *wanted && out[0] == 0 {
             Ok(seconds)
@@ -403,26 +428,36 @@ impl Corrected {
     }
 }
 
-fn corrections() -> Result<(), String> {
+fn corrections(bars: &mut Bars) -> Result<(), String> {
     println!(
-        "\n| {} records | the engine, corrected | plain | corrected / plain (at most 5) | second, corrected |",
+        "\n| {} records | corrected, prepared | corrected | plain run | corrected / plain (at most 5) | second, corrected |",
         grouped(MOST_RECORDS as f64)
     );
-    println!("|---|---|---|---|---|");
-    let row = |what: &str, load: Corrected| {
-        let corrected = run_corrected_file(&load.file, &load.rates).numbers();
-        let plain = run_file(&load.file, &load.rates).numbers();
-        let runs: [&dyn Fn() -> Timed; 3] =
-            [&|| load.engine(ffi::corrected_study, &corrected), &|| load.engine(ffi::file_study, &plain), &|| load.second()];
-        let [corrected, plain, second] = best(TURNS, runs)?;
-        println!("| {what} | {:.2} ms | {:.2} ms | {:.3} | {:.2} ms |", corrected * 1e3, plain * 1e3, corrected / plain, second * 1e3);
-        Ok(())
+    println!("|---|---|---|---|---|---|");
+    let mut row = |what: &str, load: Corrected, most: f64| {
+        let wanted = run_corrected_file(&load.file, &load.rates).numbers();
+        let wanted_plain = run_file(&load.file, &load.rates).numbers();
+        let mut table = [&load.rates[..], &[0]].concat();
+        ffi::prepare(&mut table);
+        let runs: [&dyn Fn() -> Timed; 4] = [
+            &|| load.engine(ffi::prepared_corrected_study, &table, &wanted),
+            &|| load.engine(ffi::corrected_study, &load.rates, &wanted),
+            &|| load.engine(ffi::file_study, &load.rates, &wanted_plain),
+            &|| load.second(),
+        ];
+        let [prepared, corrected, plain, second] = best(TURNS, runs)?;
+        let ratio = corrected / plain;
+        let [prepared_ms, corrected_ms, plain_ms, second_ms] = [prepared, corrected, plain, second].map(|seconds| seconds * 1e3);
+        println!("| {what} | {prepared_ms:.2} ms | {corrected_ms:.2} ms | {plain_ms:.2} ms | {ratio:.3} | {second_ms:.2} ms |");
+        bars.hold(&format!("No. 1, corrected / plain: {what}"), ratio, Asked::AtMost(5.0));
+        bars.hold(&format!("corrected with a prepared table / second: {what}"), prepared / second, Asked::AtMost(most));
+        Ok::<(), String>(())
     };
-    row("all numbers different, rising", Corrected::new(|number| number))?;
-    row("all numbers different, falling", Corrected::new(|number| MOST_RECORDS as u32 - number))?;
+    row("all numbers different, rising", Corrected::new(|number| number), 1.0)?;
+    row("all numbers different, falling", Corrected::new(|number| MOST_RECORDS as u32 - number), 1.0)?;
     // An odd factor keeps them different.
-    row("all numbers different, in no order", Corrected::new(|number| number.wrapping_mul(0x9e37_79b1)))?;
-    row("one number", Corrected::new(|_| 1))
+    row("all numbers different, in no order", Corrected::new(|number| number.wrapping_mul(0x9e37_79b1)), 1.5)?;
+    row("one number", Corrected::new(|_| 1), 1.0)
 }
 
 /// A whole number with its thousands apart.
