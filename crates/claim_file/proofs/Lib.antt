@@ -15,7 +15,7 @@ pub mod ByteStores
 pub mod ReadBack
 pub mod WholeRuns
 mod BlockTrips
-mod Runs
+pub mod Runs
 mod LentRuns
 mod RecordParts
 mod BlockTests
