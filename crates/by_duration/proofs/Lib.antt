@@ -1,5 +1,5 @@
--- `Wraps`, `Raised`: sums modulo 2⁶⁴, and rows raised by amounts. `Figures`, `RowGroups`: the figures of rows and groups. `ListedRows`: a listing's
--- part. `Takes`, `FileTakes`: the claims that a run takes.
+-- `Wraps`, `Raised`: sums modulo 2⁶⁴, and rows raised by amounts. `Figures`, `SpanRows`, `RowGroups`: the figures of rows, spans and groups.
+-- `ListedRows`: a listing's part. `Takes`, `FileTakes`: the claims that a run takes. `GroupTotals`, `RowsDemand3`, `SameRows`: the theorems of files.
 pub mod Wraps
 pub mod Raised
 pub mod Figures
@@ -9,3 +9,5 @@ pub mod ListedRows
 pub mod Takes
 pub mod FileTakes
 pub mod GroupTotals
+pub mod RowsDemand3
+pub mod SameRows

@@ -1,7 +1,8 @@
--- What the rows of a claim file total: its study's groups. And a listing's part of them.
+-- What the rows of a claim file total: its study's groups, and over the parts of a window the rows of the undivided one. What 64 bits and a prepared
+-- table change of them: nothing. And a listing's part of them.
 use Prim.Native.Nat.{ℕ, zero, suc, _+_, _-_, _*_, _≤_, _<_, min}
 use mathlib.Core.Path.{_≡_}
-use mathlib.Core.List.{List}
+use mathlib.Core.List.{List, _++_, map}
 use lib.ListN.{length, getD, drop}
 use lib.Dec.{eqb}
 use lib.IntN.{ℤ, pos, natAbs, _+ℤ_, _*ℤ_}
@@ -9,13 +10,20 @@ use Rattle.basics.specs.Pick.{pick}
 use Rattle.basics.specs.Series.{sumTo}
 use Rattle.calendar.specs.declared.Date.{Date}
 use Rattle.claim_months.specs.declared.Claim.{Claim}
+use Rattle.claim_months.specs.Windows.{Parts, total, EveryPart}
 use Rattle.claim_months.specs.Durations.{isNumber}
 use Rattle.claim_months.specs.Listing.{listedRecords, listingCheck, listAfter}
 use Rattle.rates.specs.declared.Kind.{Kind}
+use Rattle.rates.specs.declared.Kind.the-variants.{Plain, Prepared}
 use Rattle.rates.specs.Rates.{lastOf}
+use Rattle.rates.specs.Prepared.{preparedOf}
 use Rattle.study.specs.Sums.{isCount, sumAt}
+use Rattle.claim_file.specs.declared.WindowDates.{WindowDates}
+use Rattle.claim_file.specs.Block.{windowBytes}
+use Rattle.claim_file.specs.Files.{runOf, Accepts, windowDays, SameEnd}
 use Rattle.by_duration.specs.Rows.{inRow, rowWeight, rowFigure}
-use Rattle.by_duration.specs.DurationRuns.{runFor, durationRows}
+use Rattle.by_duration.specs.Wrapped.{as64}
+use Rattle.by_duration.specs.DurationRuns.{runFor, durationRows, durationNumbers}
 
 -- the number of a row and column among some rows
 abbrev pub rowNumber : List ℤ → ℕ → ℕ → ℤ
@@ -39,6 +47,28 @@ abbrev pub GroupTotals : Type 0
 GroupTotals =
     (kind : Kind) (table bytes : List ℕ) (n g column : ℕ) → n ≤ 2000 → 1 ≤ g → g ≤ 5 → column < 8 → lastOf (min g 4) < n
     → rowsTotal (durationRows kind n table bytes) n g column ≡ sumAt (runFor kind table bytes .study .sums) g column
+
+-- the rows of the file with a window in block 0 and any bytes behind it
+unfoldable pub rowsFor : List ℕ → List ℕ → ℕ → WindowDates → List ℤ
+rowsFor rates rest n w = durationRows Plain n rates (windowBytes (w .first) (w .last) ++ rest)
+
+-- Demand 3 for the rows: cut the window, and each number of the parts' rows totals that of the whole, with the same answers everywhere
+pub record RowsAddUp (rates rest : List ℕ) (n : ℕ) (whole part : WindowDates) (parts : List WindowDates) : Type 0 where
+  pub same-end : EveryPart (λ w. SameEnd (runOf rates rest w) (runOf rates rest whole)) part parts
+  pub rows : (k : ℕ) → total _+ℤ_ (λ w. getD (rowsFor rates rest n w) k (pos 0)) part parts ≡ getD (rowsFor rates rest n whole) k (pos 0)
+
+-- it holds of every rate table, every file behind block 0, sound or not, and every way to cut a window; `proofs/RowsDemand3.antt` proves it
+abbrev pub RowsDemand3 : Type 0
+RowsDemand3 =
+    (rates rest : List ℕ) (n : ℕ) (whole part : WindowDates) (parts : List WindowDates) → Accepts whole
+    → Parts Accepts windowDays (windowDays whole .first .0) (windowDays whole .last .0) part parts → RowsAddUp rates rest n whole part parts
+
+-- With rates 64 bits hold every number of the rows, and the prepared table of some rates gives what the rates give, of every file;
+-- `proofs/SameRows.antt` proves it
+pub record SameRows (n : ℕ) (rates bytes : List ℕ) : Type 0 where
+  pub fits : map as64 (durationRows Plain n rates bytes) ≡ durationRows Plain n rates bytes
+  pub prepared-rows : durationRows Prepared n (preparedOf rates) bytes ≡ durationRows Plain n rates bytes
+  pub prepared : durationNumbers Prepared n (preparedOf rates) bytes ≡ durationNumbers Plain n rates bytes
 
 -- Over the first m rows of a listing, six numbers each: the sum of thirtieths, the fourth number, each times a weight of its duration, the first ..
 unfoldable pub listedWeighted : (ℕ → ℤ) → List ℤ → ℕ → ℤ
