@@ -1,11 +1,10 @@
 -- The claims that the run of a file takes: each passes the checks 1 to 8, they are at most 500,000, and the study's sums are the sums of their shares.
 -- Assumes nothing.
 use Prim.Native.Nat.{ℕ, _+_, _-_, _≤_, _<_}
-use mathlib.Core.Path.{_≡_, refl, sym, ap, ap₂, _∙_, subst, subst⁻¹}
-use mathlib.Core.Bool.{Bool, true, _&&_}
-use mathlib.Core.List.{List, [], _∷_, _++_}
-use lib.ListN.{length, take, drop, getD, length-take}
-use lib.Seq.{take-nil}
+use mathlib.Core.Path.{_≡_, refl, sym, ap, _∙_, subst, subst⁻¹}
+use mathlib.Core.Bool.{true, _&&_}
+use mathlib.Core.List.{List, [], _∷_}
+use lib.ListN.{length, take, getD}
 use lib.Dec.{ltb, eqb}
 use lib.IntN.{ℤ, pos, _+ℤ_, +ℤ-idl, +ℤ-idr, +ℤ-assoc}
 use borrow.Author.Tests.{eq-eqb, ltb-true, eqb-true, eqb-false}
@@ -20,7 +19,7 @@ use Rattle.claim_months.specs.Claim.{claimCheck}
 use Rattle.claim_months.specs.Windows.{windowCheck}
 use Rattle.claim_months.specs.Span.{exposureCheck}
 use Rattle.rates.specs.declared.Kind.{Kind}
-use Rattle.rates.specs.Prepared.{checkOf}
+use Rattle.rates.specs.Prepared.{tableCheckOf}
 use Rattle.study.specs.declared.Study.{Study}
 use Rattle.study.specs.Sums.{none, plus, within}
 use Rattle.study.specs.Study.{fresh, sumOver, hasRoom, roomCheck}
@@ -43,7 +42,7 @@ module _ (kind : Kind) (table : List ℕ) where
   -- what a claim passes that is taken in a window
   pub record Passes (w : Window) (c : Claim) : Type 0 where
     pub exposed : exposureCheck c (w .first .0) (w .last .0) ≡ 0
-    pub rated : checkOf kind table (c .cell) ≡ 0
+    pub rated : tableCheckOf kind table (c .cell) ≡ 0
 
   -- and what is left of the limit
   checks : (s : Study) (c : Claim) → add kind table s c .refused ≡ 0 → Passes (s .window) c × (s .taken < most-claims)
@@ -52,9 +51,9 @@ module _ (kind : Kind) (table : List ℕ) where
       let b = s .window .first .0 in
       let e = s .window .last .0 in
       let room = check (ltb (s .taken) most-claims && within (s .sums)) 9 in
-      let p = then-passed (windowCheck b e) (claimCheck c then checkOf kind table (c .cell) then room) h in
-      let q = then-passed (claimCheck c) (checkOf kind table (c .cell) then room) (p .1) in
-      let r = then-passed (checkOf kind table (c .cell)) room (q .1) in
+      let p = then-passed (windowCheck b e) (claimCheck c then tableCheckOf kind table (c .cell) then room) h in
+      let q = then-passed (claimCheck c) (tableCheckOf kind table (c .cell) then room) (p .1) in
+      let r = then-passed (tableCheckOf kind table (c .cell)) room (q .1) in
       let t = check-passed (ltb (s .taken) most-claims && within (s .sums)) 9 (omega tests) (r .1) in (
         record { exposed = then-next (windowCheck b e) (claimCheck c) (p .0) ∙ q .0; rated = r .0 },
         ltb-true (s .taken) most-claims (and-left (ltb (s .taken) most-claims) (within (s .sums)) t),

@@ -1,14 +1,12 @@
 -- Each group of a file's study is the total of its rows.
 -- Assumes nothing.
-use Prim.Native.Nat.{ℕ, zero, suc, _+_, _-_, _*_, _/_, _%_, _≤_, _<_, min}
-use mathlib.Core.Path.{_≡_, refl, sym, ap, ap₂, _∙_}
-use mathlib.Core.Bool.{true, _&&_}
+use Prim.Native.Nat.{ℕ, zero, suc, _+_, _-_, _*_, _≤_, _<_, min}
+use mathlib.Core.Path.{_≡_, refl, sym, ap, ap₂, _∙_, fun-ext}
 use mathlib.Core.List.{List, [], _∷_}
 use lib.ListN.{getD}
-use lib.Dec.{leb, ltb, eqb}
-use lib.IntN.{ℤ, pos, _+ℤ_, _*ℤ_, +ℤ-idl, *ℤ-comm, sucℤ-*ℤ, zero-*ℤ}
+use lib.Dec.{leb, ltb}
+use lib.IntN.{ℤ, pos, _+ℤ_, _*ℤ_, +ℤ-idl, sucℤ-*ℤ, zero-*ℤ}
 use borrow.Author.Tests.{le-leb, lt-ltb}
-use Rattle.basics.specs.Pick.{pick}
 use Rattle.basics.specs.Series.{sumTo}
 use Rattle.basics.proofs.Tests.{tests, by}
 use Rattle.basics.proofs.Tables.{table-at}
@@ -26,10 +24,11 @@ use Rattle.study.specs.Study.{sumOver, figure}
 use Rattle.study.specs.PreparedAdding.{shareWith}
 use Rattle.study.proofs.Capacity.{records-at}
 use Rattle.by_duration.specs.Rows.{rowAt, claimFigure, rowSum, rowsOver}
-use Rattle.by_duration.specs.DurationRuns.{runFor, durationRows}
+use Rattle.by_duration.specs.DurationRuns.{durationRows}
 use Rattle.by_duration.specs.Totals.{rowNumber, firstOf, groupRows, rowsTotal, GroupTotals}
+use Rattle.by_duration.proofs.SpanRows.{once}
 use Rattle.by_duration.proofs.RowGroups.{rows-group, five}
-use Rattle.by_duration.proofs.FileTakes.{claims, window, sharesAt, run-shares}
+use Rattle.by_duration.proofs.FileTakes.{claims, window, run-shares}
 
 -- ---- sums over claims and rows in either order
 
@@ -49,11 +48,6 @@ unfolding sumOver
 sum-claims f n [] = sum-zeros n
 sum-claims f n (c ∷ cs) =
     sum-plus (λ j. f j c) (λ j. sumOver _+ℤ_ (pos 0) (f j) cs) n ∙ ap (λ (z : ℤ). sumTo (λ j. f j c) n +ℤ z) (sum-claims f n cs)
-
-over-same : (f g : Claim → ℤ) → ((c : Claim) → f c ≡ g c) → (cs : List Claim) → sumOver _+ℤ_ (pos 0) f cs ≡ sumOver _+ℤ_ (pos 0) g cs
-unfolding sumOver
-over-same f g h [] = refl
-over-same f g h (c ∷ cs) = ap₂ _+ℤ_ (h c) (over-same f g h cs)
 
 -- ---- the rows of some claims
 
@@ -79,12 +73,9 @@ group-total kind n w table cs g column hn low high h l =
     let one = first-low g low high in
     sum-same _ _ m (λ j q. rows-at kind n w table cs (firstOf g + j) column (omega tests) (omega tests) h)
     ∙ sum-claims (λ j c. claimFigure kind n w table (firstOf g + j) column c) m cs
-    ∙ over-same _ _ (λ c. rows-group (recoveryOf kind table (c .cell)) (deathOf kind table (c .cell)) n g column c (w .first .0) (w .last .0) hn low high l) cs
+    ∙ ap (λ (f : Claim → ℤ). sumOver _+ℤ_ (pos 0) f cs) (fun-ext (λ c. rows-group (recoveryOf kind table (c .cell)) (deathOf kind table (c .cell)) n g column c (w .first .0) (w .last .0) hn low high l))
 
 -- ---- the group's place in a study
-
-once : (x : ℤ) → pos 1 *ℤ x ≡ x
-once x = sucℤ-*ℤ (pos 0) x ∙ ap (λ (z : ℤ). z +ℤ x) (zero-*ℤ x) ∙ +ℤ-idl x
 
 share-place : (kind : Kind) (w : Window) (table : List ℕ) (g column : ℕ) → 1 ≤ g → g ≤ 5 → column < 8 → (c : Claim)
     → getD (shareWith kind w table c) (8 * (g - 1) + column) (pos 0)
@@ -108,4 +99,4 @@ group-totals kind table bytes n g column hn low high h l =
     ∙ sym
     (rw (le-leb 1 g low, le-leb g 5 high, lt-ltb column 8 h)
     (run-shares kind table bytes (8 * (g - 1) + column) (omega tests)
-    ∙ over-same _ _ (share-place kind w table g column low high h) (claims kind table bytes)))
+    ∙ ap (λ (f : Claim → ℤ). sumOver _+ℤ_ (pos 0) f (claims kind table bytes)) (fun-ext (share-place kind w table g column low high h))))

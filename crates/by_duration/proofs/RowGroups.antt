@@ -1,18 +1,16 @@
 -- The rows of a group's durations total the group's figures.
 -- Assumes nothing.
-use Prim.Native.Nat.{ℕ, zero, suc, _+_, _-_, _*_, _≤_, _<_, min}
+use Prim.Native.Nat.{ℕ, zero, suc, _+_, _-_, _≤_, _<_, min}
 use mathlib.Core.Path.{_≡_, refl, sym, ap₂, _∙_}
 use mathlib.Core.Bool.{Bool, true, false, _&&_, and-false}
 use mathlib.Core.List.{List}
 use lib.Dec.{leb, ltb, eqb}
-use lib.IntN.{ℤ, pos, _+ℤ_}
-use borrow.Author.Tests.{le-leb, lt-leb, lt-ltb, le-ltb, eq-eqb, ne-eqb}
-use Rattle.basics.specs.Pick.{pick}
+use lib.IntN.{ℤ, _+ℤ_}
+use borrow.Author.Tests.{le-leb, lt-leb, lt-ltb, le-ltb, ne-eqb}
 use Rattle.basics.specs.Series.{sumTo}
 use Rattle.basics.proofs.Tests.{tests, by}
 use Rattle.claim_months.specs.declared.Claim.{Claim}
 use Rattle.claim_months.specs.Exposure.{MonthRecord, monthRecords}
-use Rattle.claim_months.proofs.Spans.{sum-same}
 use Rattle.rates.specs.Rates.{groupOf, lastOf}
 use Rattle.rates.proofs.Laws.{by-group}
 use Rattle.study.specs.Study.{figure}

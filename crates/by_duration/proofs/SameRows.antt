@@ -1,6 +1,6 @@
 -- With rates 64 bits hold every number of the rows, and their prepared table gives the same rows.
 -- Assumes nothing.
-use Prim.Native.Nat.{ℕ, zero, suc, _+_, _*_, _≤_, _<_}
+use Prim.Native.Nat.{ℕ, zero, suc, _+_, _*_, _≤_}
 use mathlib.Core.Path.{_≡_, refl, sym, ap, ap₂, _∙_, fun-ext}
 use mathlib.Core.List.{List, [], _∷_, _++_, map}
 use mathlib.Core.Bool.{Bool}
@@ -22,7 +22,7 @@ use Rattle.claim_months.proofs.SpanAnswers.{exposed}
 use Rattle.claim_months.proofs.Ranges.{weighted-size}
 use Rattle.claim_months.proofs.Closing.{closings-value, closingDuration}
 use Rattle.rates.specs.declared.Kind.the-variants.{Plain, Prepared}
-use Rattle.rates.specs.Prepared.{checkOf, recoveryOf, deathOf, preparedOf}
+use Rattle.rates.specs.Prepared.{tableCheckOf, recoveryOf, deathOf, preparedOf}
 use Rattle.rates.proofs.Laws.{recovery-bound, death-bound}
 use Rattle.rates.proofs.PreparedTables.{same-table}
 use Rattle.study.specs.Sums.{columnAt, isCount}
@@ -100,7 +100,7 @@ module _ (n : ℕ) (rates bytes : List ℕ) where
   cs = claims Plain rates bytes
 
   claim-size : (r column : ℕ) (c : Claim) → Passes Plain rates w c → natAbs (claimFigure Plain n w rates r column c) ≤ 54000000000
-  unfolding claimFigure recoveryOf deathOf checkOf
+  unfolding claimFigure recoveryOf deathOf tableCheckOf
   claim-size r column c p =
       rw (row-figure (recoveryOf Plain rates (c .cell)) (deathOf Plain rates (c .cell)) n r column (monthRecords c (w .first .0) (w .last .0)))
       (figure-size (ofRow n r) (recoveryOf Plain rates (c .cell)) (deathOf Plain rates (c .cell)) (λ d. recovery-bound rates (c .cell) d (p .rated))

@@ -2,36 +2,38 @@
 -- Assumes nothing.
 use Prim.Native.Nat.{ℕ, suc, _+_, _-_, _*_, _≤_, _<_}
 use mathlib.Core.Path.{_≡_, refl, sym, ap, ap₂, _∙_}
-use mathlib.Core.Bool.{Bool, true, false, _&&_, and-true, and-false}
+use mathlib.Core.Bool.{Bool, true, false, _&&_, and-false}
 use mathlib.Core.List.{List}
 use native.Mathlib.Nat.{mul-zero}
 use native.Mathlib.Numerals.{add-one}
 use lib.Dec.{leb, eqb}
+use lib.ListN.{length}
 use lib.IntN.{ℤ, pos, _+ℤ_, _*ℤ_, +ℤ-idl, +ℤ-idr, sucℤ-*ℤ, zero-*ℤ}
-use borrow.Author.Tests.{eq-eqb, ne-eqb, le-leb}
+use borrow.Author.Tests.{eq-eqb, ne-eqb, le-leb, lt-leb}
 use Rattle.basics.specs.Pick.{pick}
 use Rattle.basics.specs.Series.{sumTo}
 use Rattle.basics.proofs.Tests.{tests, by, pick-is, and-left, and-right}
 use Rattle.calendar.specs.Calendar.{lastDayNumber}
 use Rattle.claim_months.specs.declared.Claim.{Claim}
 use Rattle.claim_months.specs.declared.Span.{Span}
-use Rattle.claim_months.specs.Exposure.{MonthRecord, monthRecords, weighted, closings}
+use Rattle.claim_months.specs.Exposure.{monthRecords, weighted, closings}
 use Rattle.claim_months.specs.declared.MaybeSpan.the-variants.{Spanned, Refused}
 use Rattle.claim_months.specs.declared.Window.{Window}
 use Rattle.claim_months.specs.Span.{spanOf, spanThirtieths, spanWeighted, spanClosing, exposureCheck, spanIn}
 use Rattle.claim_months.proofs.SpanAnswers.{exposed, spanned, span-refused}
 use Rattle.rates.specs.declared.Kind.{Kind}
-use Rattle.rates.specs.Prepared.{recoveryOf, deathOf}
+use Rattle.rates.specs.Prepared.{recoveryOf, deathOf, partRecovery, partDeath}
+use Rattle.rates.proofs.Parts.{cellPart, part-recovery, part-death}
 use Rattle.claim_months.proofs.Sound.{Sound}
 use Rattle.claim_months.proofs.Spans.{span-weighted, span-closings}
 use Rattle.study.specs.Sums.{isCount}
 use Rattle.study.specs.Private.{columnRate}
 use Rattle.by_duration.specs.Rows.{rowOf, inRow, rowWeight, rowFigure, claimFigure}
-use Rattle.by_duration.specs.Private.{Amounts, monthAmount, spanMonths, spanClosings, checkedFigure}
-use Rattle.by_duration.proofs.Figures.{figureIn, ofRow, row-figure}
+use Rattle.by_duration.specs.Private.{monthAmount, spanMonths, spanClosings, hasCell, spanFigure, checkedFigure}
+use Rattle.by_duration.proofs.Figures.{figureIn, row-figure}
 use Rattle.by_duration.proofs.Raised.{oneAmount}
 
-once : (x : ℤ) → pos 1 *ℤ x ≡ x
+pub once : (x : ℤ) → pos 1 *ℤ x ≡ x
 once x = sucℤ-*ℤ (pos 0) x ∙ ap (λ (z : ℤ). z +ℤ x) (zero-*ℤ x) ∙ +ℤ-idl x
 
 -- a duration's row is one of the n
@@ -141,16 +143,31 @@ span-figure recovery death n c ok b e h sp q r column =
     ∙ sym (ap₂ (λ (x : ℕ) (y : ℤ). pick (isCount column) (pos x) y) (span-closings c ok b e h v) (span-weighted c ok b e h w))
     ∙ sym (row-figure recovery death n r column (monthRecords c b e))
 
+-- a span has the rates of its cell's part where the table has it, and is left out where it hasn't
+module _ (kind : Kind) (n : ℕ) (table : List ℕ) (cell : ℕ) (sp : Span) where
+  pub part-figure : (part : List ℕ) → part ≡ cellPart table cell → cell * 958 + 958 ≤ length table → (r column : ℕ)
+      → spanMonths (partRecovery kind part) (partDeath kind part) n sp (sp .months) r column +ℤ spanClosings n sp r column
+      ≡ spanFigure kind n table cell sp r column
+  unfolding spanFigure hasCell
+  part-figure part e all r column =
+      let p : partRecovery kind part ≡ recoveryOf kind table cell = ap (partRecovery kind) e ∙ part-recovery table cell all kind in
+      let q : partDeath kind part ≡ deathOf kind table cell = ap (partDeath kind) e ∙ part-death table cell all kind in
+      rw (le-leb (cell * 958 + 958) (length table) all) (λ i. spanMonths (p i) (q i) n sp (sp .months) r column +ℤ spanClosings n sp r column)
+
+  pub no-cell : length table < cell * 958 + 958 → (r column : ℕ) → spanFigure kind n table cell sp r column ≡ pos 0
+  unfolding spanFigure hasCell
+  no-cell few r column = rw (lt-leb (cell * 958 + 958) (length table) few) refl
+
 -- a claim whose span was answered has its figures, one that was refused none
 module _ (kind : Kind) (n : ℕ) (w : Window) (table : List ℕ) (c : Claim) where
   pub span-checked : (sp : Span) → Spanned sp ≡ spanIn c (w .first .0) (w .last .0) → (r column : ℕ)
-      → spanMonths (recoveryOf kind table (c .cell)) (deathOf kind table (c .cell)) n sp (sp .months) r column +ℤ spanClosings n sp r column
-      ≡ checkedFigure kind n w table c r column
-  unfolding checkedFigure claimFigure
+      → spanFigure kind n table (c .cell) sp r column ≡ checkedFigure kind n w table c r column
+  unfolding spanFigure checkedFigure claimFigure
   span-checked sp m r column =
       let x = spanned c (w .first .0) (w .last .0) sp m in
       let y = exposed c (w .first .0) (w .last .0) (x .0) in
-      rw (eq-eqb (exposureCheck c (w .first .0) (w .last .0)) 0 (x .0)) (span-figure _ _ n c (y .0) (w .first .0) (w .last .0) (y .1) sp (x .1) r column)
+      rw (eq-eqb (exposureCheck c (w .first .0) (w .last .0)) 0 (x .0))
+      (ap (λ (z : ℤ). pick (hasCell table (c .cell)) z (pos 0)) (span-figure _ _ n c (y .0) (w .first .0) (w .last .0) (y .1) sp (x .1) r column))
 
   pub refused-checked : (number : ℕ) → Refused number ≡ spanIn c (w .first .0) (w .last .0) → (r column : ℕ) → checkedFigure kind n w table c r column ≡ pos 0
   unfolding checkedFigure

@@ -2,13 +2,12 @@
 -- Assumes nothing.
 use Prim.Native.Nat.{ℕ, zero, suc, _+_, _-_, _*_, _/_, _≤_, _<_, min}
 use mathlib.Core.Path.{_≡_, refl, sym, ap, ap₂, _∙_, subst, subst⁻¹}
-use mathlib.Core.Bool.{Bool, true, false}
+use mathlib.Core.Bool.{true, false}
 use mathlib.Core.List.{List, [], _∷_, _++_, append-nil}
-use lib.ListN.{length, take, drop, length-append, length-take, length-drop, take-append-drop}
+use lib.ListN.{length, take, drop, length-append, length-take, length-drop}
 use lib.Seq.{take-all, take-nil, take-length, take-append-le, take-append-add}
 use lib.Dec.{ltb, eqb}
 use borrow.Author.Tests.{eqb-true, eqb-false, ne-eqb, eq-eqb}
-use Rattle.basics.specs.Limits.{block-bytes}
 use Rattle.basics.specs.Pick.{pick}
 use Rattle.basics.proofs.Tests.{tests, by}
 use Rattle.claim_months.specs.declared.Claim.{Claim}
@@ -21,13 +20,12 @@ use Rattle.study.specs.declared.Answer.{Answer}
 use Rattle.study.specs.Study.{fresh, openedWith, opened}
 use Rattle.study.specs.PreparedAdding.{addCheckWith, addedWith}
 use Rattle.claim_file.specs.declared.FileRun.{FileRun}
-use Rattle.claim_file.specs.Bytes.{byteAt, dateFrom}
+use Rattle.claim_file.specs.Bytes.{dateFrom}
 use Rattle.claim_file.specs.Block.{blockClaim, claimCount, blockSound}
-use Rattle.claim_file.specs.Run.{started, goesOn, stops, claimsFrom, begun, blockFed, fed, ended, fileRunWith}
+use Rattle.claim_file.specs.Run.{goesOn, stops, claimsFrom, begun, blockFed, fed}
 use Rattle.claim_file.specs.PreparedRuns.{addingWith}
 use Rattle.claim_file.specs.Files.{claimsOfBlock, claimsOfBlocks, fileClaims}
-use Rattle.claim_file.proofs.Feeding.{fed-in-pieces}
-use Rattle.claim_file.proofs.Runs.{sound, fed-refused, fed-none, fed-block, fed-turn, stops-refused}
+use Rattle.claim_file.proofs.Runs.{sound, fed-refused, fed-none, fed-turn, stops-refused}
 
 -- ---- the claims of a file
 

@@ -1,8 +1,8 @@
 -- Sums modulo 2⁶⁴: what wraps wraps once.
 -- Assumes nothing.
-use Prim.Native.Nat.{ℕ, zero, suc, _+_, _-_, _%_, _≤_, _<_}
+use Prim.Native.Nat.{ℕ, zero, suc, _+_, _-_, _%_, _<_}
 use mathlib.Core.Path.{_≡_, refl, sym, ap, _∙_, subst⁻¹}
-use mathlib.Core.Bool.{Bool, true, false, cond, true≢false}
+use mathlib.Core.Bool.{true, false, cond, true≢false}
 use native.Mathlib.Omega.{arith}
 use lib.Dec.{T, ltb}
 use lib.Signed.{ltZ, nonNeg}

@@ -1,12 +1,8 @@
 -- The rows of a claim file: the run of the file, with its checks in their order, and the rows of the claims taken.
-use Prim.Native.Nat.{ℕ, _-_, _/_, _%_}
-use mathlib.Core.Bool.{Bool, _&&_}
+use Prim.Native.Nat.{ℕ}
 use mathlib.Core.List.{List, [], _∷_, _++_, map}
-use lib.ListN.{length, take}
-use lib.Dec.{leb, eqb}
+use lib.ListN.{take}
 use lib.IntN.{ℤ, pos}
-use Rattle.basics.specs.Limits.{no-form}
-use Rattle.basics.specs.Pick.{pick}
 use Rattle.claim_months.specs.declared.Claim.{Claim}
 use Rattle.rates.specs.declared.Kind.{Kind}
 use Rattle.claim_file.specs.declared.FileRun.{FileRun}
@@ -37,18 +33,3 @@ headNumbers r = pos (r .refused) ∷ pos (r .block) ∷ pos (r .place) ∷ pos (
 -- what is given: these, and behind them the rows
 unfoldable pub durationNumbers : Kind → ℕ → List ℕ → List ℕ → List ℤ
 durationNumbers kind n table bytes = headNumbers (runFor kind table bytes) ++ map as64 (durationRows kind n table bytes)
-
--- a list of 4 + 8 × n numbers, n from 1 to 2,000, and n
-unfoldable pub holdsRows : ℕ → Bool
-holdsRows len = leb 12 len && leb len 16004 && eqb ((len - 4) % 8) 0
-
-abbrev pub rowCount : ℕ → ℕ
-rowCount len = (len - 4) / 8
-
--- the answer: the run's number, and 255 with a list of another length, which keeps what it holds
-unfoldable pub durationAnswer : Kind → List ℕ → List ℕ → ℕ → ℕ
-durationAnswer kind table bytes len = pick (holdsRows len) (runFor kind table bytes .refused) no-form
-
-unfoldable pub durationsAfter : Kind → List ℕ → List ℕ → List ℤ → List ℤ
-durationsAfter kind table bytes old =
-    pick (holdsRows (length old)) (durationNumbers kind (rowCount (length old)) table bytes) old

@@ -1,12 +1,13 @@
 -- What the private functions of this layer answer: rows raised by amounts, and a span's part of them.
-use Prim.Native.Nat.{ℕ, zero, suc, _+_, _-_, _*_, _<_}
-use mathlib.Core.Bool.{_&&_}
-use mathlib.Core.List.{List, [], _++_, _∷_}
+use Prim.Native.Nat.{ℕ, _+_, _*_, _<_}
+use mathlib.Core.Bool.{Bool, _&&_}
+use mathlib.Core.List.{List}
 use lib.ListN.{length, getD}
-use lib.Dec.{eqb, ltb}
+use lib.Dec.{eqb, leb}
 use lib.IntN.{ℤ, pos, _+ℤ_}
 use mir.Syntax.{w64}
 use mir.Val.{SFits}
+use Rattle.basics.specs.Limits.{cell-numbers}
 use Rattle.basics.specs.Pick.{pick}
 use Rattle.basics.specs.Tables.{table}
 use Rattle.claim_months.specs.declared.Claim.{Claim}
@@ -14,10 +15,9 @@ use Rattle.claim_months.specs.declared.Span.{Span}
 use Rattle.claim_months.specs.declared.Window.{Window}
 use Rattle.claim_months.specs.Span.{spanWeighted, spanClosing, exposureCheck}
 use Rattle.rates.specs.declared.Kind.{Kind}
+use Rattle.rates.specs.Prepared.{recoveryOf, deathOf}
 use Rattle.study.specs.Sums.{columnAt, isCount}
-use Rattle.study.specs.Study.{sumOver}
 use Rattle.study.specs.Private.{columnRate}
-use Rattle.claim_file.specs.Block.{blockClaim}
 use Rattle.by_duration.specs.Rows.{rowAt, inRow, rowWeight, claimFigure}
 use Rattle.by_duration.specs.Wrapped.{as64}
 
@@ -46,14 +46,16 @@ spanMonths recovery death n sp m r column =
 unfoldable pub spanClosings : ℕ → Span → Amounts
 spanClosings n sp r column = pick (isCount column) (pos (spanClosing (λ d y. inRow n r d * pick (eqb y column) 1 0) sp)) (pos 0)
 
--- a claim's figures if it passes the checks 1 to 5, and the sums of some claims'
+-- a span with a table's rates of a cell, if the table has all of the cell's numbers
+unfoldable pub hasCell : List ℕ → ℕ → Bool
+hasCell table cell = leb (cell * cell-numbers + cell-numbers) (length table)
+
+unfoldable pub spanFigure : Kind → ℕ → List ℕ → ℕ → Span → Amounts
+spanFigure kind n table cell sp r column =
+    pick (hasCell table cell)
+    (spanMonths (recoveryOf kind table cell) (deathOf kind table cell) n sp (sp .months) r column +ℤ spanClosings n sp r column) (pos 0)
+
+-- a claim's figures if it passes the checks 1 to 5 and the table has its cell
 unfoldable pub checkedFigure : Kind → ℕ → Window → List ℕ → Claim → Amounts
 checkedFigure kind n w table c r column =
-    pick (eqb (exposureCheck c (w .first .0) (w .last .0)) 0) (claimFigure kind n w table r column c) (pos 0)
-
-unfoldable pub checkedSum : Kind → ℕ → Window → List ℕ → List Claim → Amounts
-checkedSum kind n w table claims r column = sumOver _+ℤ_ (pos 0) (λ c. checkedFigure kind n w table c r column) claims
-
--- the first claims of a block
-unfoldable pub blockFirst : List ℕ → ℕ → List Claim
-blockFirst bytes m = table m (blockClaim bytes)
+    pick (eqb (exposureCheck c (w .first .0) (w .last .0)) 0 && hasCell table (c .cell)) (claimFigure kind n w table r column c) (pos 0)

@@ -5,44 +5,40 @@ ghost use denote.Ref.{now};
 ghost use lib.IntN.{pos, natAbs, _*ℤ_};
 ghost use lib.ListN.{length};
 ghost use Rattle.claim_months.specs.Span.{spanU, spanB, spanThirtieths, SpanBounds};
-ghost use Rattle.rates.specs.Prepared.{recoveryOf, deathOf};
+ghost use Rattle.rates.specs.Prepared.{partRecovery, partDeath};
 ghost use Rattle.by_duration.specs.Rows.{rowOf};
-ghost use Rattle.by_duration.specs.Private.{Fit, raisedBy, monthAmount, spanMonths, spanClosings, checkedFigure};
+ghost use Rattle.by_duration.specs.Private.{Fit, raisedBy, monthAmount, spanMonths, spanClosings, spanFigure, checkedFigure};
 use crate::wrapping::raise;
 use basics::Duration;
+use basics::limits::CELL_NUMBERS;
 use claim_months::Claim;
 use claim_months::MaybeSpan;
 use claim_months::Span;
+use claim_months::Thirtieths;
 use claim_months::Window;
 use rates::Cell;
 use rates::Kind;
 use rates::RateSums;
-use rates::prepared::rate_sums;
+use rates::prepared::rates_over;
 
 // The row of a duration among n.
-fn row_of(n: u32, duration: u32) -> u32
-    ensures { λ r. ⌜ r ≡ rowOf n duration ⌝ }
+fn row_of(n: u32, duration: Duration) -> u32
+    ensures { λ r. ⌜ r ≡ rowOf n (duration .0) ⌝ }
 {
-    if duration < n {
-        return duration;
+    if duration.0 < n {
+        return duration.0;
     }
     n
 }
 
-// A cell's rates at a duration, times thirtieths.
-fn month_expected(
-    kind: Kind,
-    table: &[u32],
-    cell: Cell,
-    duration: Duration,
-    thirtieths: i64,
-) -> RateSums
+// The rates of a cell's part at a duration, times thirtieths.
+fn month_expected(kind: Kind, part: &[u32], duration: Duration, thirtieths: i64) -> RateSums
     requires { ⌜ 2 ≤ duration .0 ⌝ }
     requires { ⌜ natAbs thirtieths ≤ 30 ⌝ }
-    ensures { λ r. ⌜ r .recoveries ≡ recoveryOf kind (now (table .entry)) (cell .0) (duration .0) *ℤ thirtieths ⌝ }
-    ensures { λ r. ⌜ r .deaths ≡ deathOf kind (now (table .entry)) (cell .0) (duration .0) *ℤ thirtieths ⌝ }
+    ensures { λ r. ⌜ r .recoveries ≡ partRecovery kind (now (part .entry)) (duration .0) *ℤ thirtieths ⌝ }
+    ensures { λ r. ⌜ r .deaths ≡ partDeath kind (now (part .entry)) (duration .0) *ℤ thirtieths ⌝ }
 {
-    let rates = rate_sums(kind, table, cell, duration, 1);
+    let rates = rates_over(kind, part, duration, 1);
     RateSums {
         recoveries: rates.recoveries * thirtieths,
         deaths: rates.deaths * thirtieths,
@@ -63,48 +59,48 @@ fn add_month(rows: &mut [i64], row: u32, thirtieths: i64, recoveries: i64, death
 }
 
 // U of a span's month, from 0, and B of it.
-fn month_u(span: Span, month: u32) -> u32
+fn month_u(span: Span, month: u32) -> Thirtieths
     requires { ⌜ month < span .months ⌝ }
-    ensures { λ r. ⌜ r ≡ spanU span month ⌝ }
+    ensures { λ r. ⌜ r .0 ≡ spanU span month ⌝ }
 {
     if month + 1 == span.months {
-        return span.through.0;
+        return span.through;
     }
-    30
+    Thirtieths(30)
 }
 
-fn month_b(span: Span, month: u32) -> u32
-    ensures { λ r. ⌜ r ≡ spanB span month ⌝ }
+fn month_b(span: Span, month: u32) -> Thirtieths
+    ensures { λ r. ⌜ r .0 ≡ spanB span month ⌝ }
 {
     if month == 0 {
-        return span.before.0;
+        return span.before;
     }
-    0
+    Thirtieths(0)
 }
 
-// Its thirtieths.
+// U less B, a plain number.
 fn month_thirtieths(span: Span, month: u32) -> i64
     requires { ⌜ SpanBounds span ⌝ }
     requires { ⌜ month < span .months ⌝ }
     ensures { λ r. ⌜ r ≡ spanThirtieths span month ⌝ }
 {
-    month_u(span, month) as i64 - month_b(span, month) as i64
+    month_u(span, month).0 as i64 - month_b(span, month).0 as i64
 }
 
-// Adds a span's months to the n rows.
-fn add_months(kind: Kind, table: &[u32], cell: Cell, span: Span, n: u32, rows: &mut [i64])
+// Adds a span's months to the n rows, with the rates of its cell's part.
+fn add_months(kind: Kind, part: &[u32], span: Span, n: u32, rows: &mut [i64])
     requires { ⌜ SpanBounds span ⌝ }
     requires { ⌜ 1 ≤ n ⌝ }
     requires { ⌜ length (now rows) ≡ 8 * n ⌝ }
     requires { ⌜ Fit (now rows) ⌝ }
-    ensures { λ _. ⌜ now (rows .exit) ≡ raisedBy (now (rows .entry)) (spanMonths (recoveryOf kind (now (table .entry)) (cell .0)) (deathOf kind (now (table .entry)) (cell .0)) n span (span .months)) ⌝ }
+    ensures { λ _. ⌜ now (rows .exit) ≡ raisedBy (now (rows .entry)) (spanMonths (partRecovery kind (now (part .entry))) (partDeath kind (now (part .entry))) n span (span .months)) ⌝ }
 {
     let mut month: u32 = 0;
     while month < span.months {
         let duration = span.first.0 + month;
         let thirtieths = month_thirtieths(span, month);
-        let expected = month_expected(kind, table, cell, Duration(duration), thirtieths);
-        let row = row_of(n, duration);
+        let expected = month_expected(kind, part, Duration(duration), thirtieths);
+        let row = row_of(n, Duration(duration));
         add_month(rows, row, thirtieths, expected.recoveries, expected.deaths);
         month += 1;
     }
@@ -122,11 +118,28 @@ fn add_closing(span: Span, n: u32, rows: &mut [i64])
     if category == 0 {
         return;
     }
-    let row = row_of(n, span.first.0 + (span.months - 1));
+    let row = row_of(n, Duration(span.first.0 + (span.months - 1)));
     raise(rows, 8 * (row as usize - 1) + category as usize, 1);
 }
 
-// Adds a claim to the n rows, if it passes the checks 1 to 5.
+// Adds a span to the n rows, if the table has its cell. The rates were checked where the claim was taken: here the length alone is asked for.
+fn add_span(kind: Kind, table: &[u32], cell: Cell, span: Span, n: u32, rows: &mut [i64])
+    requires { ⌜ SpanBounds span ⌝ }
+    requires { ⌜ 1 ≤ n ⌝ }
+    requires { ⌜ length (now rows) ≡ 8 * n ⌝ }
+    requires { ⌜ Fit (now rows) ⌝ }
+    ensures { λ _. ⌜ now (rows .exit) ≡ raisedBy (now (rows .entry)) (spanFigure kind n (now (table .entry)) (cell .0) span) ⌝ }
+{
+    let from = cell.0 as usize * CELL_NUMBERS;
+    let to = from + CELL_NUMBERS;
+    if table.len() < to {
+        return;
+    }
+    add_months(kind, &table[from..to], span, n, rows);
+    add_closing(span, n, rows);
+}
+
+// Adds a claim to the n rows, if it passes the checks 1 to 5 and the table has its cell.
 pub(crate) fn add_rows(
     kind: Kind,
     table: &[u32],
@@ -143,8 +156,7 @@ pub(crate) fn add_rows(
     match claim_months::exposure::span(claim, window) {
         MaybeSpan::Spanned(span) => {
             let cell = claim.cell as u32;
-            add_months(kind, table, Cell(cell), span, n, rows);
-            add_closing(span, n, rows);
+            add_span(kind, table, Cell(cell), span, n, rows);
         }
         MaybeSpan::Refused(_) => {}
     }

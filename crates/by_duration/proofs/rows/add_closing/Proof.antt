@@ -1,11 +1,10 @@
 -- `rows::add_closing` meets its contract: the closing month has one more in its row under its category.
 -- Assumes nothing.
 use Prim.Native.Nat.{_≤_, _<_}
-use mathlib.Core.Path.{_≡_, _∙_}
+use mathlib.Core.Path.{_∙_}
 use native.Mathlib.Omega.{arith}
 use borrow.Author.Needs.{needs}
 use lib.IntN.{pos}
-use Rattle.by_duration.specs.Rows.{rowOf}
 use Rattle.by_duration.specs.Private.{spanClosings}
 use Rattle.by_duration.proofs.Raised.{raised-none, raised-same, raised-one}
 use Rattle.by_duration.proofs.SpanRows.{row-range, closing-none, closing-one}
@@ -18,11 +17,11 @@ returns c =
     raised-none (s .args .rows .now) (spanClosings (s .args .n) (s .args .span)) (s .pre .1 .1 .1)
     (λ r k _ _. closing-none (s .args .n) (s .args .span) (omega arith) r k)
 
-sub-row-of : tie.Need-sub-row-of
-sub-row-of c = let s = c .before .before in s .pre .0 .closing-months (omega arith)
+sub-t7 : tie.Need-sub-t7
+sub-t7 c = let s = c .before .before in s .pre .0 .closing-months (omega arith)
 
-add-row-of : tie.Need-add-row-of
-add-row-of c = let s = c .before .before .before in record { fits = omega (arith, s .pre .0 .first-high, s .pre .0 .months-high) }
+add-t8 : tie.Need-add-t8
+add-t8 c = let s = c .before .before .before in record { fits = omega (arith, s .pre .0 .first-high, s .pre .0 .months-high) }
 
 module _ (c : tie.After-row-of) where
   abbrev start : tie.Start
@@ -61,5 +60,5 @@ returns-2 c =
 pub add-closing-spec : {M : Type 1} → statement M
 add-closing-spec =
     tie.close
-    (tie.spec returns sub-row-of add-row-of (λ c κs. search needs) (λ c. search needs) sub-raise (λ c. omega (arith, ranges (c .before) .1)) (λ c. search needs)
+    (tie.spec returns sub-t7 add-t8 (λ c κs. search needs) (λ c. search needs) sub-raise (λ c. omega (arith, ranges (c .before) .1)) (λ c. search needs)
     (λ c. omega (arith, ranges (c .before) .1)) raise-requires same-length returns-2)

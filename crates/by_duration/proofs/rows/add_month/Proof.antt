@@ -1,9 +1,8 @@
 -- `rows::add_month` meets its contract: three numbers of its row are raised, and no other.
 -- Assumes nothing.
-use mathlib.Core.Path.{_≡_, _∙_}
+use mathlib.Core.Path.{_∙_}
 use native.Mathlib.Omega.{arith}
 use lib.ListN.{length}
-use mir.Syntax.{w64}
 use mir.Val.{toZ, ofZ}
 use mir.Facts.{toZ-ofZ}
 use Rattle.by_duration.proofs.Raised.{month-raised}

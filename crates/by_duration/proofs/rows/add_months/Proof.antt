@@ -11,7 +11,7 @@ use mir.Val.{toZ, ofZ}
 use lib.ListN.{length}
 use mir.Facts.{toZ-ofZ}
 use Rattle.claim_months.proofs.Spans.{thirtieths-size}
-use Rattle.rates.specs.Prepared.{recoveryOf, deathOf}
+use Rattle.rates.specs.Prepared.{partRecovery, partDeath}
 use Rattle.by_duration.specs.Private.{Fit, raisedBy, spanMonths, monthAmount}
 use Rattle.by_duration.proofs.Raised.{raised-length, raised-fit, raised-none, raised-same, raised-twice}
 use Rattle.by_duration.proofs.SpanRows.{row-range, months-none, months-more}
@@ -19,11 +19,11 @@ use Rattle.by_duration.proofs.rows.add_months.Statement.{statement}
 use Rattle.by_duration.proofs.rows.add_months.Tie as tie
 
 abbrev Inv-loop : tie.InvT-loop
-Inv-loop kind table cell span n rows₀ month₀ rows month =
-    (month ≤ span .months) × (rows ≡ raisedBy rows₀ (spanMonths (recoveryOf kind table (cell .0)) (deathOf kind table (cell .0)) n span month))
+Inv-loop kind part span n rows₀ month₀ rows month =
+    (month ≤ span .months) × (rows ≡ raisedBy rows₀ (spanMonths (partRecovery kind part) (partDeath kind part) n span month))
 
 abbrev μ-loop : tie.MeasureT-loop
-μ-loop kind table cell span n rows₀ month₀ rows month = span .months - month
+μ-loop kind part span n rows₀ month₀ rows month = span .months - month
 
 loop-holds : tie.Need-loop-holds Inv-loop μ-loop
 loop-holds c =
@@ -76,8 +76,8 @@ loop-again c =
     let tb : toZ w64 (ofZ w64 t) ≡ t = toZ-ofZ (record { sfits = m .month-thirtieths .ok }) in
     let xb : toZ w64 (ofZ w64 (x .result .recoveries)) ≡ x .result .recoveries = toZ-ofZ (record { sfits = k .before .struct-told .given .0 .1 }) in
     let yb : toZ w64 (ofZ w64 (x .result .deaths)) ≡ x .result .deaths = toZ-ofZ (record { sfits = k .struct-told2 .given .1 .0 .1 }) in
-    let recovery = recoveryOf (s .args .kind) (s .args .table .now) (s .args .cell .0) in
-    let death = deathOf (s .args .kind) (s .args .table .now) (s .args .cell .0) in
+    let recovery = partRecovery (s .args .kind) (s .args .part .now) in
+    let death = partDeath (s .args .kind) (s .args .part .now) in
     let row = k .before .before .before .row-of .result in (
       omega arith,
       rw (tb, xb, yb) at (c .before .add-month .ensures)

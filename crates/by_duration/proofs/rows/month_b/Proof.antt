@@ -1,6 +1,5 @@
 -- `rows::month_b` meets its contract: each way out by its test.
 -- Assumes nothing.
-use mathlib.Core.Path.{_≡_}
 use borrow.Author.Tests.{eq-eqb, ne-eqb}
 use Rattle.claim_months.specs.Span.{spanB}
 use Rattle.by_duration.proofs.rows.month_b.Statement.{statement}
@@ -8,7 +7,7 @@ use Rattle.by_duration.proofs.rows.month_b.Tie as tie
 
 returns : tie.Need-returns
 unfolding spanB
-returns c = rw (eq-eqb (c .before .args .month) 0 (c .if1 .taken))
+returns c = rw (eq-eqb (c .before .before .args .month) 0 (c .before .if1 .taken))
 
 returns-2 : tie.Need-returns-2
 unfolding spanB

@@ -11,7 +11,7 @@ use mir.Val.{SFits, toZ, ofZ}
 use Rattle.basics.specs.Series.{sumTo}
 use Rattle.basics.proofs.Integers.{size-product}
 use Rattle.basics.proofs.Signed.{Small, result-fits, result-is}
-use Rattle.rates.specs.Prepared.{recoveryOf, deathOf, ratesOver}
+use Rattle.rates.specs.Prepared.{partRecovery, partDeath, ratesOver}
 use Rattle.rates.proofs.Laws.{over-is}
 use Rattle.by_duration.proofs.rows.month_expected.Statement.{statement}
 use Rattle.by_duration.proofs.rows.month_expected.Tie as tie
@@ -34,39 +34,39 @@ module _ (rate : ℕ → ℤ) (d : ℕ) (x t : ℤ) (low : 2 ≤ d) (is : x ≡ 
   timed : toZ w64 (ofZ w64 (toZ w64 (ofZ w64 x) *ℤ toZ w64 (ofZ w64 t))) ≡ rate d *ℤ t
   timed = result-is _*ℤ_ x t (omega (arith, size)) (omega (arith, few)) small ∙ ap (λ (z : ℤ). z *ℤ t) (is ∙ one-rate rate d low)
 
-module _ (c : tie.After-rate-sums) where
+module _ (c : tie.After-rates-over) where
   abbrev start : tie.Start
   start = c .before .before
 
   abbrev recovery : ℕ → ℤ
-  recovery = recoveryOf (start .args .kind) (start .args .table .now) (start .args .cell .0)
+  recovery = partRecovery (start .args .kind) (start .args .part .now)
 
   abbrev death : ℕ → ℤ
-  death = deathOf (start .args .kind) (start .args .table .now) (start .args .cell .0)
+  death = partDeath (start .args .kind) (start .args .part .now)
+
+mul-t6 : tie.Need-mul-t6
+mul-t6 c =
+    let m = c .before .before in
+    let s = start m in
+    fits (recovery m) (s .args .duration .0) (m .rates-over .result .recoveries) (s .args .thirtieths) (s .pre .0) (m .rates-over .ensures .0)
+    (m .rates-over .ensures .1 .1 .0) (s .pre .1)
 
 mul-t7 : tie.Need-mul-t7
 mul-t7 c =
-    let m = c .before .before in
-    let s = start m in
-    fits (recovery m) (s .args .duration .0) (m .rate-sums .result .recoveries) (s .args .thirtieths) (s .pre .0) (m .rate-sums .ensures .0)
-    (m .rate-sums .ensures .1 .1 .0) (s .pre .1)
-
-mul-t8 : tie.Need-mul-t8
-mul-t8 c =
     let m = c .before .before .before .before in
     let s = start m in
-    fits (death m) (s .args .duration .0) (m .rate-sums .result .deaths) (s .args .thirtieths) (s .pre .0) (m .rate-sums .ensures .1 .0)
-    (m .rate-sums .ensures .1 .1 .1) (s .pre .1)
+    fits (death m) (s .args .duration .0) (m .rates-over .result .deaths) (s .args .thirtieths) (s .pre .0) (m .rates-over .ensures .1 .0)
+    (m .rates-over .ensures .1 .1 .1) (s .pre .1)
 
 returns : tie.Need-returns
 returns c =
     let m = c .before .before .before .before in
     let s = start m in (
-      timed (recovery m) (s .args .duration .0) (m .rate-sums .result .recoveries) (s .args .thirtieths) (s .pre .0) (m .rate-sums .ensures .0)
-          (m .rate-sums .ensures .1 .1 .0) (s .pre .1),
-      timed (death m) (s .args .duration .0) (m .rate-sums .result .deaths) (s .args .thirtieths) (s .pre .0) (m .rate-sums .ensures .1 .0)
-          (m .rate-sums .ensures .1 .1 .1) (s .pre .1),
+      timed (recovery m) (s .args .duration .0) (m .rates-over .result .recoveries) (s .args .thirtieths) (s .pre .0) (m .rates-over .ensures .0)
+          (m .rates-over .ensures .1 .1 .0) (s .pre .1),
+      timed (death m) (s .args .duration .0) (m .rates-over .result .deaths) (s .args .thirtieths) (s .pre .0) (m .rates-over .ensures .1 .0)
+          (m .rates-over .ensures .1 .1 .1) (s .pre .1),
     )
 
 pub month-expected-spec : {M : Type 1} → statement M
-month-expected-spec = tie.close (tie.spec (λ c κs. search needs) mul-t7 mul-t8 returns)
+month-expected-spec = tie.close (tie.spec (λ c κs. search needs) mul-t6 mul-t7 returns)

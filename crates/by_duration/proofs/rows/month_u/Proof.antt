@@ -1,7 +1,6 @@
 -- `rows::month_u` meets its contract: each way out by its test.
 -- Assumes nothing.
 use Prim.Native.Nat.{_+_}
-use mathlib.Core.Path.{_≡_}
 use native.Mathlib.Omega.{arith}
 use borrow.Author.Tests.{eq-eqb, ne-eqb}
 use Rattle.claim_months.specs.Span.{spanU}
@@ -10,7 +9,7 @@ use Rattle.by_duration.proofs.rows.month_u.Tie as tie
 
 returns : tie.Need-returns
 unfolding spanU
-returns c = rw (eq-eqb (c .before .before .args .month + 1) (c .before .before .args .span .months) (c .if1 .taken))
+returns c = let a = c .before .before .before .args in rw (eq-eqb (a .month + 1) (a .span .months) (c .before .if1 .taken))
 
 returns-2 : tie.Need-returns-2
 unfolding spanU

@@ -1,6 +1,6 @@
 -- `wrapping::of_bits` meets its contract: bits from 2⁶³ on are a number below 0.
 -- Assumes nothing.
-use mathlib.Core.Path.{_≡_, refl}
+use mathlib.Core.Path.{refl}
 use native.Mathlib.Omega.{arith}
 use Rattle.by_duration.proofs.Wraps.{high-bits}
 use Rattle.by_duration.proofs.wrapping.of_bits.Statement.{statement}

@@ -3,12 +3,11 @@
 use mathlib.Core.Path.{_≡_, ap, _∙_}
 use native.Mathlib.Omega.{arith}
 use borrow.Author.Needs.{needs}
-use lib.IntN.{ℤ, pos, _+ℤ_}
+use lib.IntN.{pos}
 use lib.ListN.{getD, set}
 use mir.Syntax.{w64}
 use mir.Val.{toZ, ofZ}
 use mir.Facts.{toZ-ofZ}
-use Rattle.by_duration.specs.Wrapped.{as64}
 use Rattle.by_duration.proofs.wrapping.raise.Statement.{statement}
 use Rattle.by_duration.proofs.wrapping.raise.Tie as tie
 
