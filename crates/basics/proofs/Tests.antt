@@ -22,7 +22,8 @@ and_left false b e = e
 
 pub and_right : (a b : Bool) → (a && b) ≡ true → b ≡ true
 and_right true b e = e
-and_right false b e = elim b [ true ↦ refl | false ↦ e ]
+and_right false true e = refl
+and_right false false e = e
 
 pub and-false-cases : (a b : Bool) → (a && b) ≡ false → (a ≡ false) ⊎ (b ≡ false)
 and-false-cases true b e = inr e

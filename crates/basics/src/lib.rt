@@ -1,11 +1,13 @@
 // What no layer owns: the units that several layers share, the papers' limits, and the numbers of the refusals.
+#![tactic(auto)]
+
 pub mod limits;
 pub mod refusal;
 
 // A day number: days since 1950-01-01. A unit of its own.
-#[derive(Drop)]
+#[derive(Clone, Copy)]
 pub struct Day(pub u32);
 
 // A duration in months. A unit of its own.
-#[derive(Drop)]
+#[derive(Clone, Copy)]
 pub struct Duration(pub u32);

@@ -1,5 +1,5 @@
 -- Document 01, Calendar: the Gregorian rule, dates, day numbers and months. Months are counted as the listing counts them, year × 12 + month − 1.
-use Rattle.std.specs.Prelude.{ℕ, zero, suc, ◌+◌, ◌*◌, ◌-◌, ◌/◌, ◌%◌, Bool, true, false, not, ◌&&◌, ◌||◌, leb, ltb, eqb}
+use Rattle.std.specs.Prelude.{ℕ, zero, suc, ◌+◌, ◌*◌, ◌-◌, ◌/◌, ◌%◌, Bool, not, ◌&&◌, ◌||◌, leb, ltb, eqb}
 use Rattle.basics.specs.Pick.{pick}
 use Rattle.calendar.specs.declared.Date.{Date}
 

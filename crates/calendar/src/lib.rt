@@ -1,4 +1,6 @@
 // The calendar of document 01: dates, day numbers and months from 1950-01-01 to 2099-12-31.
+#![tactic(auto)]
+
 ghost use Rattle.std.specs.Prelude.{◌≡◌, ◌+◌, ◌≤◌};
 ghost use Rattle.calendar.specs.Calendar.{leap_year, month_length, is_date, month_of, last_day_number, first_month};
 ghost use Rattle.calendar.specs.DayAnswers.{day_of, date_at, month_at, is_month, first_day, last_day};
@@ -6,7 +8,7 @@ ghost use Rattle.calendar.specs.DayAnswers.{day_of, date_at, month_at, is_month,
 pub use basics::Day;
 
 // A calendar date, in the widths of the claim file. Any bit pattern is a value; `is_date` tells which are dates.
-#[derive(Drop)]
+#[derive(Clone, Copy)]
 pub struct Date {
     pub year: u16,
     pub month: u8,
@@ -14,21 +16,21 @@ pub struct Date {
 }
 
 // A day number, or none.
-#[derive(Drop)]
+#[derive(Clone, Copy)]
 pub enum MaybeDay {
     Known(Day),
     NoDay,
 }
 
 // A date, or none.
-#[derive(Drop)]
+#[derive(Clone, Copy)]
 pub enum MaybeDate {
     Found(Date),
     NoDate,
 }
 
 // The index of a month, year × 12 + month − 1, or none.
-#[derive(Drop)]
+#[derive(Clone, Copy)]
 pub enum MaybeMonth {
     Index(u32),
     NoMonth,

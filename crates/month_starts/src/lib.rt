@@ -1,4 +1,6 @@
 // The table of month starts of document 02, No. 5.
+#![tactic(auto)]
+
 ghost use Rattle.std.specs.Prelude.{◌≡◌, get_or};
 ghost use Rattle.month_starts.specs.MonthStarts.{month_start_days};
 ghost use Rattle.month_starts.specs.Private.{row_at};

@@ -3,7 +3,6 @@
 use Prim.Native.Nat.{ℕ, ◌+◌, ◌-◌, ◌/◌, ◌%◌, ◌≤◌}
 use mathlib.Core.Path.{◌≡◌, ◌∙◌}
 use native.Mathlib.Omega.{arith}
-use borrow.Author.Rules.{rules}
 use borrow.Author.Tests.{le-leb, lt-leb}
 use Rattle.calendar.specs.declared.Date.{Date}
 use Rattle.calendar.specs.Calendar.{date_of, month_of, last_day_number, first_month}
@@ -12,12 +11,7 @@ use Rattle.calendar.specs.MonthTable.{entry, date_in}
 use Rattle.calendar.proofs.TableRule.{table-lengths}
 use Rattle.calendar.proofs.MonthTables.{month-place, in_entry, date-in}
 use Rattle.calendar.proofs.Laws.{index-length-high, same-date}
-use Rattle.calendar.proofs.date_of_day.Statement.{statement}
-use Rattle.calendar.proofs.date_of_day.Tie as tie
-
-returns : tie.Need-returns
-unfolding date_at
-returns c = simp (lt-leb c.before.args.day.0 last_day_number (omega arith))
+use Rattle.calendar.proofs.date_of_day.Goals as goal
 
 -- the date of day n, from its month m, counted from 1950, and that month's start s
 record Parts (n m s : ℕ) : Type 0 where
@@ -38,24 +32,27 @@ parts n m s h e f =
       date = same-date _ (date_in m n) (omega arith) (omega arith) (omega arith) ∙ date-in n m h e;
     }
 
-found : (c : tie.After-start) → Parts c.before.before.before.args.day.0 c.before.month-of.result c.start.result.0
-found c = parts c.before.before.before.args.day.0 _ _ (omega arith) c.before.month-of.ensures c.start.ensures
-
-cast-t9 : tie.Need-overflow-cast-t9
-cast-t9 c = omega (arith, (found c).year-high)
-
-sub-t13 : tie.Need-overflow-sub-t13
-sub-t13 c = (found c).start
-
-cast-t15 : tie.Need-overflow-cast-t15
-cast-t15 c = omega (arith, (found c).day-high)
-
-returns-2 : tie.Need-returns-2
+pub returns-then-number-gt-LAST_DAY : goal.returns-then-number-gt-LAST_DAY
 unfolding date_at
-returns-2 c = simp (le-leb c.before.before.before.args.day.0 last_day_number (omega arith), (found c).date)
+returns-then-number-gt-LAST_DAY c = simp (lt-leb c.args.day.0 last_day_number (omega arith))
 
-pub date-of-day-spec : {M : Type 1} → statement M
-date-of-day-spec =
-    tie.close
-    (tie.spec returns (λ c κs. search rules) (λ c κs. search rules) (λ c. search rules) cast-t9 (λ c. search rules) (λ c. search rules) sub-t13
-    (λ c. search rules) cast-t15 returns-2)
+pub overflow_cast-result : goal.overflow_cast-result
+overflow_cast-result c =
+    let found : Parts c.args.day.0 c.month_of-months.result c.start-start.result.0 = parts c.args.day.0 _ _ (omega arith) c.month_of-months.ensures c.start-start.ensures in
+    omega (arith, found.year-high)
+
+pub overflow_sub-result : goal.overflow_sub-result
+overflow_sub-result c =
+    let found : Parts c.args.day.0 c.month_of-months.result c.start-start.result.0 = parts c.args.day.0 _ _ (omega arith) c.month_of-months.ensures c.start-start.ensures in
+    found.start
+
+pub overflow_cast-result-3 : goal.overflow_cast-result-3
+overflow_cast-result-3 c =
+    let found : Parts c.args.day.0 c.month_of-months.result c.start-start.result.0 = parts c.args.day.0 _ _ (omega arith) c.month_of-months.ensures c.start-start.ensures in
+    omega (arith, found.day-high)
+
+pub returns : goal.returns
+unfolding date_at
+returns c =
+    let found : Parts c.args.day.0 c.month_of-months.result c.start-start.result.0 = parts c.args.day.0 _ _ (omega arith) c.month_of-months.ensures c.start-start.ensures in
+    simp (le-leb c.args.day.0 last_day_number (omega arith), found.date)

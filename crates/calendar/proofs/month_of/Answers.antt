@@ -4,7 +4,6 @@ use Prim.Native.Nat.{ℕ, ◌+◌, ◌*◌, ◌-◌, ◌/◌, ◌≤◌, ◌<◌
 use mathlib.Core.Path.{◌≡◌, refl}
 use mathlib.Core.Bool.{Bool, true, ◌&&◌, and-eq-true_iff}
 use native.Mathlib.Omega.{arith}
-use borrow.Author.Rules.{rules}
 use lib.Dec.{leb, ltb}
 use Rattle.calendar.specs.Calendar.{month_of, last_day_number, first_month}
 use Rattle.basics.proofs.Tests.{tests}
@@ -14,8 +13,7 @@ use Rattle.calendar.specs.MonthTable.{entry}
 use Rattle.calendar.proofs.TableRule.{table-count, table-rule}
 use Rattle.calendar.proofs.Laws.{months-order, month-of-low, month-of-start, month-of-end}
 use Rattle.calendar.proofs.MonthTables.{month-place, in_entry}
-use Rattle.calendar.proofs.month_of.Statement.{statement}
-use Rattle.calendar.proofs.month_of.Tie as tie
+use Rattle.calendar.proofs.month_of.Goals as goal
 
 -- the guess at month k's first day is k or more, and at its last day k + 1 or less
 near : ℕ → ℕ → ℕ → Bool
@@ -56,16 +54,11 @@ met n s h e l =
     let o = months-order (first_month + guess n) (month_of n + 1) (omega arith) (omega (arith, month-of-end n, table-rule (guess n) (omega arith))) in
     omega arith
 
-sub-result : tie.Need-overflow-sub-result
-sub-result c = (over c.before.before.before.args.day.0 c.before.before.start.result.0 c.before.before.before.requires c.before.before.start.ensures (omega arith)).0
+pub overflow_sub-result : goal.overflow_sub-result
+overflow_sub-result c = (over c.args.day.0 c.start.result.0 c.requires c.start.ensures (omega arith)).0
 
-returns : tie.Need-returns
-returns c = (over c.before.before.before.args.day.0 c.before.before.start.result.0 c.before.before.before.requires c.before.before.start.ensures (omega arith)).1
+pub returns-then-number-start : goal.returns-then-number-start
+returns-then-number-start c = (over c.args.day.0 c.start.result.0 c.requires c.start.ensures (omega arith)).1
 
-returns-2 : tie.Need-returns-2
-returns-2 c = met c.before.before.before.args.day.0 c.before.before.start.result.0 c.before.before.before.requires c.before.before.start.ensures (omega arith)
-
-pub month-of-spec : {M : Type 1} → statement M
-month-of-spec =
-    tie.close
-    (tie.spec (λ c. search rules) (λ c. search rules) (λ c κs. search rules) sub-result returns returns-2)
+pub returns : goal.returns
+returns c = met c.args.day.0 c.start.result.0 c.requires c.start.ensures (omega arith)

@@ -4,13 +4,11 @@ use Prim.Native.Nat.{ℕ, ◌+◌, ◌*◌, ◌<◌}
 use mathlib.Core.Path.{◌≡◌, ap, ◌∙◌}
 use mathlib.Core.List.{List}
 use native.Mathlib.Omega.{arith}
-use borrow.Author.Rules.{rules}
 use lib.ListN.{get_or}
 use Rattle.basics.proofs.Tables.{table_at}
 use Rattle.month_starts.specs.MonthStarts.{month_start_days}
 use Rattle.month_starts.specs.Private.{row_at}
-use Rattle.month_starts.proofs.start.Statement.{statement}
-use Rattle.month_starts.proofs.start.Tie as tie
+use Rattle.month_starts.proofs.start.Goals as goal
 
 -- month i stands in row k at place m
 entry : (i k m : ℕ) (r : List ℕ) → r ≡ row_at k → 4 * k + m ≡ i → m < 4 → get_or r m 0 ≡ get_or month_start_days i 0
@@ -20,9 +18,5 @@ entry i k m r e p h =
     ∙ table_at 4 (λ j. get_or month_start_days (4 * k + j) 0) m 0 h
     ∙ ap (λ (j : ℕ). get_or month_start_days j 0) p
 
-returns : tie.Need-returns
-returns c = entry c.before.args.month _ _ _ c.row.ensures (omega arith) (omega arith)
-
-pub start_spec : {M : Type 1} → statement M
-start_spec =
-    tie.close (tie.spec (λ c κs. search rules) (λ c. search rules) (λ c. search rules) (λ c. search rules) (λ c. search rules) returns)
+pub returns : goal.returns
+returns c = entry c.args.month _ _ _ c.row-starts.ensures (omega arith) (omega arith)

@@ -4,21 +4,11 @@ use Prim.Native.Nat.{ℕ, ◌+◌, ◌%◌, ◌/◌, ◌≤◌}
 use mathlib.Core.Path.{◌≡◌, refl}
 use mathlib.Core.Bool.{Bool, true, ◌||◌}
 use native.Mathlib.Omega.{arith}
-use borrow.Author.Rules.{rules}
 use borrow.Author.Tests.{eq-eqb, ne_eqb, eqb-true}
 use lib.Dec.{eqb}
 use Rattle.calendar.specs.Calendar.{month_length}
 use Rattle.basics.proofs.Tests.{all_below, all-at}
-use Rattle.calendar.proofs.month_length.Statement.{statement}
-use Rattle.calendar.proofs.month_length.Tie as tie
-
-returns : tie.Need-returns
-unfolding month_length
-returns c = simp (eq-eqb _ _ c.before.before.if1.true, ← c.before.is-leap-year.ensures, c.if2.true)
-
-returns-2 : tie.Need-returns-2
-unfolding month_length
-returns-2 c = simp (eq-eqb _ _ c.before.before.if1.true, ← c.before.is-leap-year.ensures, c.if2.false)
+use Rattle.calendar.proofs.month_length.Goals as goal
 
 -- the length that the code computes is right at a month that isn't February
 right : ℕ → Bool
@@ -35,10 +25,13 @@ others y m low high f =
     simp (ne_eqb m 2 f)
     (eqb-true _ _ (simp (ne_eqb m 0 z, ne_eqb m 2 f) at (all-at right 13 all_right m (omega arith))))
 
-returns-3 : tie.Need-returns-3
-returns-3 c = others _ _ c.before.requires.0 c.before.requires.1 c.if1.false
+pub returns-then-is_leap_year : goal.returns-then-is_leap_year
+unfolding month_length
+returns-then-is_leap_year c = simp (eq-eqb _ _ c.if-month-eq2.true, ← c.is_leap_year.ensures, c.if-is_leap_year.true)
 
-pub month-length-spec : {M : Type 1} → statement M
-month-length-spec =
-    tie.close
-    (tie.spec (λ c κs. search rules) returns returns-2 (λ c. search rules) (λ c. search rules) returns-3)
+pub returns-then-month-eq2 : goal.returns-then-month-eq2
+unfolding month_length
+returns-then-month-eq2 c = simp (eq-eqb _ _ c.if-month-eq2.true, ← c.is_leap_year.ensures, c.if-is_leap_year.false)
+
+pub returns : goal.returns
+returns c = others _ _ c.requires.0 c.requires.1 c.if-month-eq2.false
