@@ -20,7 +20,7 @@ use Rattle.basics.proofs.Checks.{check-passed, then-passed}
 use Rattle.calendar.specs.Calendar.{last_day_number}
 use Rattle.claim_months.specs.declared.Claim.{Claim}
 use Rattle.claim_months.specs.declared.Listed.{Listed}
-use Rattle.claim_months.specs.declared.Listed.TheVariants.{Months, Refused}
+use Rattle.claim_months.specs.declared.Listed.TheVariants.{Months}
 use Rattle.claim_months.specs.Claim.{category, claim_check}
 use Rattle.claim_months.specs.Exposure.{closed_in, MonthRecord, thirtieths, month_records, weighted, closings}
 use Rattle.claim_months.specs.Windows.{window_sound, dates_window, Parts, EveryPart}

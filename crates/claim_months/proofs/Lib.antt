@@ -2,7 +2,7 @@
 -- `Settled`: a month's thirtieths as a difference of what is settled before two days. `Additive`, `Closing`: what adds up over a cut.
 -- `DateWindows`: the window of two dates. `Parts`, `Adds`: the same over any parts of a window. `MonthRuns`, `Spans`: the records are those of consecutive claim months. `Bands`: some months of a span at once. `Walks`: the walk that ends with the exposure. `ChangesOfDefinition`: code 6 is counted as a recovery.
 -- `Checked`: the checked value of a claim. `SpanCode`: what the code of a span rests on.
--- `Ranges`: thirtieths, durations and categories of the records. `Rows`: the listing's rows. `DurationTotals`: each duration adds up. `ClaimFigures`: document 01's figures.
+-- `Ranges`: thirtieths, durations and categories of the records. `Rows`: the listing's rows. `RowTurns`: what the loop keeps that writes them. `DurationTotals`: each duration adds up. `ClaimFigures`: document 01's figures.
 mod Picked
 pub mod Sound
 pub mod Months
@@ -20,6 +20,7 @@ mod SpanCode
 pub mod Ranges
 mod SignedRecords
 mod Rows
+mod RowTurns
 pub mod Adds
 pub mod Walks
 pub mod ChangesOfDefinition

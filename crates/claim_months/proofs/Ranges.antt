@@ -2,7 +2,7 @@
 -- Assumes nothing.
 use Rattle.calendar.specs.Calendar.{last_day_number}
 use Prim.Native.Nat.{ℕ, zero, suc, ◌+◌, ◌-◌, ◌*◌, ◌≤◌, ◌<◌, min}
-use mathlib.Core.Path.{◌≡◌, refl}
+use mathlib.Core.Path.{◌≡◌, refl, subst⁻¹}
 use mathlib.Core.Bool.{Bool, true, false, ◌||◌, cond, and-eq-true_iff}
 use mathlib.Core.List.{List, [], ◌∷◌}
 use lib.Dec.{leb, ltb, eqb, le→leb}
@@ -176,7 +176,7 @@ unfolding run month_record
 closing-run c ok b e k m r zero i h = tt
 closing-run c ok b e k m r (suc n) i h =
     let e1 : suc (k + i) ≡ k + suc i = omega tests in
-    (category-none c ok b e (k + i) (ends-early c ok b e k m r i (omega tests)), rw e1 (closing-run c ok b e k m r n (suc i) (omega tests)))
+    (category-none c ok b e (k + i) (ends-early c ok b e k m r i (omega tests)), subst⁻¹ (λ (x : ℕ). ClosingLast (run c b e x (suc n))) e1 (closing-run c ok b e k m r n (suc i) (omega tests)))
 
 pub closing-last : (c : Claim) → Sound c → (b e : ℕ) → e ≤ last_day_number → ClosingLast (month_records c b e)
 closing-last c ok b e h =

@@ -1,19 +1,18 @@
 -- The month walk that ends with the exposure gives the month records.
 -- Assumes nothing.
 use Prim.Native.Nat.{ℕ, zero, suc, ◌+◌, ◌-◌, ◌≤◌, ◌<◌, min}
-use mathlib.Core.Path.{◌≡◌, refl, sym, ap, ◌∙◌}
-use mathlib.Core.Bool.{Bool, true, false, ◌&&◌, and-false}
-use mathlib.Core.List.{List, [], ◌∷◌}
-use lib.Dec.{leb, ltb}
-use borrow.Author.Tests.{lt-leb, ltb-true}
+use mathlib.Core.Path.{◌≡◌, refl, sym}
+use mathlib.Core.Bool.{false, and-false}
+use mathlib.Core.List.{[]}
+use lib.Dec.{ltb}
+use borrow.Author.Tests.{lt-leb}
 use Rattle.basics.specs.Pick.{pick}
 use Rattle.basics.proofs.Tests.{tests, by, pick_is}
-use Rattle.calendar.specs.Calendar.{last_day_number}
 use Rattle.claim_months.specs.declared.Claim.{Claim}
-use Rattle.claim_months.specs.Claim.{is_closed, termination_day, claim_check}
-use Rattle.claim_months.specs.ClaimMonths.{month_first, month_last}
-use Rattle.claim_months.specs.Exposure.{exposed_from, exposed_to, meets, MonthRecord, month_record, records_from, month_records}
-use Rattle.claim_months.specs.Walk.{walk_from, MonthWalk, MonthWalks}
+use Rattle.claim_months.specs.Claim.{is_closed, termination_day}
+use Rattle.claim_months.specs.ClaimMonths.{month_first}
+use Rattle.claim_months.specs.Exposure.{exposed_to, meets, records_from, month_records}
+use Rattle.claim_months.specs.Walk.{walk_from, MonthWalks}
 use Rattle.claim_months.proofs.Sound.{Sound, sound}
 use Rattle.claim_months.proofs.Months.{starts-rise, months-end}
 

@@ -1,4 +1,6 @@
 // Claims, claim months and months of exposure (document 01: Claim, Months of exposure).
+#![tactic(auto)]
+
 pub mod check;
 pub mod exposure;
 pub mod listing;
@@ -12,7 +14,7 @@ use basics::Duration;
 use calendar::{Date, Day};
 
 // A claim, in the fields and widths of the claim file. Any bit pattern is a value.
-#[derive(Drop)]
+#[derive(Clone, Copy)]
 pub struct Claim {
     pub number: u32,
     pub disability: Date,
@@ -27,26 +29,26 @@ pub struct Claim {
 }
 
 // A window, as two day numbers, both included.
-#[derive(Drop)]
+#[derive(Clone, Copy)]
 pub struct Window {
     pub first: Day,
     pub last: Day,
 }
 
 // The window of two dates, or the number refused.
-#[derive(Drop)]
+#[derive(Clone, Copy)]
 pub enum MaybeWindow {
     Known(Window),
     Refused(u8),
 }
 
 // Thirtieths of a month, of U or of B. A unit of its own.
-#[derive(Drop)]
+#[derive(Clone, Copy)]
 pub struct Thirtieths(pub u32);
 
 // The month records of a claim in a window, as far as a study needs them: they have consecutive durations, and every one
 // but the first and the last has 30 thirtieths.
-#[derive(Drop)]
+#[derive(Clone, Copy)]
 pub struct Span {
     // The first record's duration.
     pub first: Duration,
@@ -61,35 +63,35 @@ pub struct Span {
 }
 
 // The span of a claim's month records, or the number of the first check that failed.
-#[derive(Drop)]
+#[derive(Clone, Copy)]
 pub enum MaybeSpan {
     Spanned(Span),
     Refused(u8),
 }
 
 // How many month records were listed, or the number of the first check that failed.
-#[derive(Drop)]
+#[derive(Clone, Copy)]
 pub enum Listed {
     Months(u32),
     Refused(u8),
 }
 
 // A day with the index of its calendar month, year × 12 + month − 1.
-#[derive(Drop)]
+#[derive(Clone, Copy)]
 struct MonthDay {
     day: Day,
     month: u32,
 }
 
 // A window whose days have their months.
-#[derive(Drop)]
+#[derive(Clone, Copy)]
 struct MonthWindow {
     first: MonthDay,
     last: MonthDay,
 }
 
 // The day numbers of a claim's dates: 0 for the termination of an open claim and for a missing maximum.
-#[derive(Drop)]
+#[derive(Clone, Copy)]
 struct ClaimDays {
     disability: Day,
     bcd: Day,
@@ -98,14 +100,14 @@ struct ClaimDays {
 }
 
 // The day numbers, or none if check 2 fails.
-#[derive(Drop)]
+#[derive(Clone, Copy)]
 enum MaybeDays {
     Days(ClaimDays),
     NoDays,
 }
 
 // A claim that passed the checks 2 to 5 and 16, as far as its months of exposure need it.
-#[derive(Drop)]
+#[derive(Clone, Copy)]
 struct CheckedClaim {
     bcd: MonthDay,
     // Claim months start `offset` days after a calendar month's first day, or, if `backward`, before its last.
@@ -122,14 +124,14 @@ struct CheckedClaim {
 }
 
 // A checked claim, or the number of the first check that failed.
-#[derive(Drop)]
+#[derive(Clone, Copy)]
 enum MaybeChecked {
     Checked(CheckedClaim),
     Refused(u8),
 }
 
 // A claim month by its place, 0 for the one that starts on BCD, with its first and last day.
-#[derive(Drop)]
+#[derive(Clone, Copy)]
 struct ClaimMonth {
     place: u32,
     first: Day,
@@ -137,7 +139,7 @@ struct ClaimMonth {
 }
 
 // The claim month that holds the first exposed day, by its place, with its first day and its B.
-#[derive(Drop)]
+#[derive(Clone, Copy)]
 struct BeginMonth {
     place: u32,
     first: Day,
@@ -145,14 +147,14 @@ struct BeginMonth {
 }
 
 // The months of a claim in a window, as a span, and the first of them: all zero if there are none.
-#[derive(Drop)]
+#[derive(Clone, Copy)]
 struct ExposedMonths {
     span: Span,
     begin: BeginMonth,
 }
 
 // A month record of a listing, with thirtieths `upper` − `lower`.
-#[derive(Drop)]
+#[derive(Clone, Copy)]
 struct Row {
     duration: Duration,
     first: MonthDay,
