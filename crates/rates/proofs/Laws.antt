@@ -1,7 +1,7 @@
 -- The laws of the rate table, for the crates above: they cite these and never unfold the table's definitions.
 -- Assumes nothing.
 use Prim.Native.Nat.{ℕ, zero, suc, ◌+◌, ◌*◌, ◌≤◌, ◌<◌, max}
-use mathlib.Core.Path.{◌≡◌, refl, subst}
+use mathlib.Core.Path.{◌≡◌, refl, ap, subst}
 use mathlib.Core.Bool.{true, false}
 use mathlib.Core.List.{List}
 use mathlib.Core.Logic.{⊎_elim}
@@ -138,4 +138,4 @@ module _ (rate : ℕ → ℤ) (d n : ℕ) (h : 2 ≤ d) where
 
   pub over-more : rates_over rate d (suc n) ≡ rates_over rate d n +ℤ rate (d + n)
   unfolding rates_over sum_to
-  over-more = rw from_itself
+  over-more = ap (λ (x : ℕ). rates_over rate d n +ℤ rate (x + n)) from_itself

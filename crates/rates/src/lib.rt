@@ -1,4 +1,6 @@
 // The lent rate table: its checks, the rates of a cell at a duration, and the group of a duration.
+#![tactic(auto)]
+
 ghost use Rattle.std.specs.Prelude.{◌≡◌, ◌+◌, ◌-◌, ◌*◌, ◌≤◌, leb, length, get_or};
 ghost use Rattle.basics.specs.Limits.{cell_numbers};
 ghost use Rattle.rates.specs.Rates.{place, length_sound, rate_check, rates_sound, recovery_rate, death_rate, group_of, last_of, group_last};
@@ -10,18 +12,18 @@ use basics::limits::{CELL_NUMBERS, LAST_DURATION};
 use basics::{Duration, refusal};
 
 // A cell of a rate table. A unit of its own.
-#[derive(Drop)]
+#[derive(Clone, Copy)]
 pub struct Cell(pub u32);
 
 // Whether a lent table holds rates or was prepared.
-#[derive(Drop)]
+#[derive(Clone, Copy)]
 pub enum Kind {
     Plain,
     Prepared,
 }
 
 // Sums of rates over durations, in millionths.
-#[derive(Drop)]
+#[derive(Clone, Copy)]
 pub struct RateSums {
     pub recoveries: i64,
     pub deaths: i64,

@@ -3,26 +3,22 @@ use Prim.Native.Nat.{ℕ, ◌/◌, ◌%◌}
 use native.Mathlib.Omega.{arith}
 use borrow.Author.Tests.{eq-eqb, ne_eqb, le-leb, lt-leb}
 use Rattle.rates.specs.Rates.{length_sound}
-use Rattle.rates.proofs.is_table.Statement.{statement}
-use Rattle.rates.proofs.is_table.Tie as tie
+use Rattle.rates.proofs.is_table.Goals as goal
 
-returns : tie.Need-returns
+pub returns-then-numbers-ne0 : goal.returns-then-numbers-ne0
 unfolding length_sound
-returns c =
-    let n : ℕ = c.before.args.numbers in
+returns-then-numbers-ne0 c =
+    let n : ℕ = c.args.numbers in
     simp (ne_eqb (n % 958) 0 (λ e. omega arith))
 
-returns-2 : tie.Need-returns-2
+pub returns-then-cells-lt1 : goal.returns-then-cells-lt1
 unfolding length_sound
-returns-2 c =
-    let n : ℕ = c.before.before.args.numbers in
+returns-then-cells-lt1 c =
+    let n : ℕ = c.args.numbers in
     simp (eq-eqb (n % 958) 0 (omega arith), lt-leb 1 (n / 958) (omega arith))
 
-returns-3 : tie.Need-returns-3
+pub returns : goal.returns
 unfolding length_sound
-returns-3 c =
-    let n : ℕ = c.before.before.args.numbers in
+returns c =
+    let n : ℕ = c.args.numbers in
     simp (eq-eqb (n % 958) 0 (omega arith), le-leb 1 (n / 958) (omega arith))
-
-pub is-table-spec : {M : Type 1} → statement M
-is-table-spec = tie.close (tie.spec returns returns-2 returns-3)
