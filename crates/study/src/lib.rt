@@ -1,4 +1,6 @@
 // The exposure study (document 01: Study): its types, and opening it.
+#![tactic(auto)]
+
 ghost use Rattle.std.specs.Prelude.{◌≡◌};
 ghost use Rattle.study.specs.Study.{fresh, opened};
 
@@ -12,7 +14,7 @@ use calendar::{Date, Day};
 use claim_months::{MaybeWindow, Window};
 
 // A study: its window, the claims taken, and their sums, as `sums` has them.
-#[derive(Drop)]
+#[derive(Clone, Copy)]
 pub struct Study {
     pub window: Window,
     pub taken: u32,
@@ -20,7 +22,7 @@ pub struct Study {
 }
 
 // A study handed back, with the number of the first check that failed, or 0.
-#[derive(Drop)]
+#[derive(Clone, Copy)]
 pub struct Answer {
     pub refused: u8,
     pub study: Study,

@@ -17,7 +17,7 @@ pub const RECOVERIES: u8 = 6;
 pub const DEATHS: u8 = 7;
 
 // Bounds of a group's sums, by column.
-#[derive(Drop)]
+#[derive(Clone, Copy)]
 struct Bounds {
     thirtieths: u64,
     count: u64,

@@ -1,4 +1,6 @@
 // A study as a list of 83 numbers, for the calls of C and Rust: first day, last day, claims taken, then its 80 sums.
+#![tactic(auto)]
+
 ghost use Rattle.std.specs.Prelude.{◌≡◌, ◌+◌, ◌≤◌, leb, pos, length};
 ghost use Rattle.std.proofs.lemmas.List.Edits.{sets};
 ghost use Rattle.basics.specs.Pick.{pick};
