@@ -1,4 +1,6 @@
 // Valuation (document 01): z, m and T of a group, the valuation rate and the reserve factor; the limit on reserves and the wanted count (document 02).
+#![tactic(auto)]
+
 pub mod factor;
 pub mod rate;
 pub mod reserve_factor;
@@ -7,7 +9,7 @@ pub mod study_factor;
 pub mod wanted_count;
 
 // z, m and T of a group, in millionths.
-#[derive(Drop)]
+#[derive(Clone, Copy)]
 pub struct GroupFactor {
     pub z: u32,
     pub m: u32,
@@ -15,35 +17,35 @@ pub struct GroupFactor {
 }
 
 // z, m and T, or the number refused.
-#[derive(Drop)]
+#[derive(Clone, Copy)]
 pub enum MaybeFactor {
     Known(GroupFactor),
     Refused(u8),
 }
 
 // A valuation rate in millionths, or the number refused.
-#[derive(Drop)]
+#[derive(Clone, Copy)]
 pub enum MaybeRate {
     Rate(u32),
     Refused(u8),
 }
 
 // The reserve factor, or the number refused.
-#[derive(Drop)]
+#[derive(Clone, Copy)]
 pub enum Reserve {
     Factor(f64),
     Refused(u8),
 }
 
 // A count of closings, or the number refused.
-#[derive(Drop)]
+#[derive(Clone, Copy)]
 pub enum MaybeCount {
     Count(u32),
     Refused(u8),
 }
 
 // The set of T that the limit on reserves allows, with both total reserves; a refusal has its number and zeros.
-#[derive(Drop)]
+#[derive(Clone, Copy)]
 pub struct LimitAnswer {
     pub refused: u8,
     pub t: [u64; 5],

@@ -11,7 +11,7 @@ use basics::{Duration, refusal};
 use rates::{Cell, check, group};
 
 // The running values: P, D and the sum.
-#[derive(Drop)]
+#[derive(Clone, Copy)]
 pub struct Running {
     pub p: f64,
     pub d: f64,

@@ -14,7 +14,7 @@ use rates::Cell;
 const LIMIT: u64 = 1300000;
 
 // The total reserves of the first claims, with the given T and with T replaced, or the number refused and zeros.
-#[derive(Drop)]
+#[derive(Clone, Copy)]
 pub struct Totals {
     pub refused: u8,
     pub given: f64,
@@ -22,6 +22,7 @@ pub struct Totals {
 }
 
 // T at its limit in groups 3 to 5, but group 3 kept where 5,000 terminations stand behind it.
+#[tactic(auto, unfolding(crate::specs::ReserveLimit::replaced_t))]
 fn replaced_t(t: [u64; 5], count: u64) -> [u64; 5]
     ensures { result ≡ replaced_t t count }
 {
