@@ -1,3 +1,5 @@
 // The sums of each duration: the rows of a claim file, one for each month of duration.
+#![tactic(auto)]
+
 mod rows;
 mod wrapping;

@@ -3,13 +3,9 @@
 use Prim.Native.Nat.{ℕ}
 use mathlib.Core.Path.{◌≡◌, ap, fun_ext}
 use mathlib.Core.List.{List}
-use Rattle.claim_months.specs.declared.Claim.{Claim}
 use Rattle.rates.specs.declared.Kind.TheVariants.{Plain, Prepared}
 use Rattle.rates.specs.Prepared.{prepared_of}
-use Rattle.study.specs.declared.Study.{Study}
-use Rattle.study.specs.declared.Answer.{Answer}
 use Rattle.study.proofs.EitherTable.{same-adding}
-use Rattle.claim_file.specs.declared.FileRun.{FileRun}
 use Rattle.claim_file.specs.Run.{Adding, adding, fed, file_run_with}
 use Rattle.claim_file.specs.Corrections.{corrected_run_with}
 use Rattle.claim_file.specs.PreparedRuns.{adding_with, SameRuns}

@@ -1,0 +1,83 @@
+-- `run_corrected_with` meets its contract: the checks in their order, and then the records kept. Assumes nothing.
+use native.Mathlib.Omega.{arith}
+use Prim.Native.Nat.{◌≤◌}
+use mathlib.Core.Path.{◌≡◌, refl, sym, ap, ap₂, ◌∙◌}
+use mathlib.Core.Bool.{true}
+use lib.ListN.{length}
+use Rattle.study.specs.declared.Answer.{Answer}
+use Rattle.study.specs.Study.{opened}
+use Rattle.claim_file.specs.Corrections.{file_records, sound_all, last_ones, records_added}
+use Rattle.claim_file.specs.PreparedRuns.{adding_with}
+use Rattle.claim_file.proofs.Marking.{zeros-zero}
+use Rattle.claim_file.proofs.RunRecords.{window_answer, window_refused}
+use Rattle.claim_file.proofs.Struck.{corrected-added, corrected-refused}
+use Rattle.claim_file.proofs.CorrectedRuns.{AllSound, sound-blocks-so, corrected-unsound, corrected-many}
+use Rattle.claim_file.proofs.corrections.run_corrected_with.Goals as goal
+use Rattle.claim_file.proofs.corrections.run_corrected_with.Goals.{Else-sound-file, After-open-answer}
+
+-- a file that has sound blocks alone
+all_so : (c : Else-sound-file) → sound_all c.args.file.now ≡ true
+all_so c =
+    let e = c.sound_blocks-sound.ensures in
+    sound-blocks-so c.args.file.now
+    (record {
+      count_so = omega (arith, e, c.if-sound-file.false);
+      whole-so = omega (arith, c.if-sound-file.false);
+      some-so = omega (arith, c.if-sound-file.false, c.if-sound-eq0.false);
+    })
+
+-- opening answers what its window does
+module _ (c : After-open-answer) where
+  answer-so : c.open-answer.result ≡ window_answer c.args.file.now
+  answer-so = c.open-answer.ensures ∙ ap₂ opened c.date_at.ensures c.date_at-2.ensures
+
+  number-so : c.open-answer.result.refused ≡ (window_answer c.args.file.now).refused
+  number-so = ap (λ (a : Answer). a.refused) answer-so
+
+pub returns-then-sound-eq0 : goal.returns-then-sound-eq0
+returns-then-sound-eq0 c =
+    let e = c.sound_blocks-sound.ensures in
+    c.unsound_at.ensures
+    ∙ corrected-unsound (adding_with c.args.kind c.args.table.now) c.args.file.now c.sound_blocks-sound.result e
+    (λ (f : AllSound c.args.file.now). absurd (omega (arith, e, c.if-sound-eq0.true, f.count_so, f.whole-so, f.some-so)))
+
+pub returns-then-sound-file : goal.returns-then-sound-file
+returns-then-sound-file c =
+    let e = c.sound_blocks-sound.ensures in
+    c.unsound_at-then-sound-file.ensures
+    ∙ corrected-unsound (adding_with c.args.kind c.args.table.now) c.args.file.now c.sound_blocks-sound.result e
+    (λ (f : AllSound c.args.file.now). absurd (omega (arith, e, c.if-sound-file.true, f.count_so, f.whole-so)))
+
+pub returns-then-answer-ne0 : goal.returns-then-answer-ne0
+returns-then-answer-ne0 c =
+    let at = goal.at.returns-then-answer-ne0 c in
+    ap window_refused (answer-so at.After-open-answer)
+    ∙ sym
+    (corrected-refused (adding_with c.args.kind c.args.table.now) c.args.file.now (all_so at.Else-sound-file)
+    (λ z. c.if-answer-ne0.true (number-so at.After-open-answer ∙ z)))
+
+pub returns-then-record_count-gt-MOST_RECORDS : goal.returns-then-record_count-gt-MOST_RECORDS
+returns-then-record_count-gt-MOST_RECORDS c =
+    let at = goal.at.returns-then-record_count-gt-MOST_RECORDS c in
+    ap (λ (a : Answer). record { study = a.study; refused = 14; block = 0; place = 0 }) (answer-so at.After-open-answer)
+    ∙ sym
+    (corrected-many (adding_with c.args.kind c.args.table.now) c.args.file.now (all_so at.Else-sound-file) (sym (number-so at.After-open-answer) ∙ c.if-answer-ne0.false)
+    (omega (arith, c.record_count.ensures, c.if-record_count-gt-MOST_RECORDS.true)))
+
+pub mark_superseded-requires : goal.mark_superseded-requires
+mark_superseded-requires c =
+    let few-so : length (file_records c.args.file.now) ≤ 60000 = omega (arith, c.record_count.ensures, c.if-record_count-gt-MOST_RECORDS.false) in
+    record { file_value = all_so (goal.at.mark_superseded-requires c).Else-sound-file; file_len_bound = few-so; marks_len = refl; all_zero = zeros-zero 7500 }
+
+pub add_kept-requires : goal.add_kept-requires
+add_kept-requires c =
+    let few-so : length (file_records c.args.file.now) ≤ 60000 = omega (arith, c.record_count.ensures, c.if-record_count-gt-MOST_RECORDS.false) in
+    record { file_value = all_so (goal.at.add_kept-requires c).Else-sound-file; file_len_bound = few-so; marks_len = c.mark_superseded.auto.marks; marks_superseded = c.mark_superseded.ensures }
+
+pub returns : goal.returns
+returns c =
+    let at = goal.at.returns c in
+    let few-so : length (file_records c.args.file.now) ≤ 60000 = omega (arith, c.record_count.ensures, c.if-record_count-gt-MOST_RECORDS.false) in
+    c.add_kept.ensures
+    ∙ ap (λ (a : Answer). records_added (adding_with c.args.kind c.args.table.now) a.study (last_ones (file_records c.args.file.now))) (answer-so at.After-open-answer)
+    ∙ sym (corrected-added (adding_with c.args.kind c.args.table.now) c.args.file.now (all_so at.Else-sound-file) (sym (number-so at.After-open-answer) ∙ c.if-answer-ne0.false) few-so)
