@@ -1,4 +1,6 @@
 // The calls for C and Rust that include/ltd_study.h declares, but for the plain runs of whole files.
+#![tactic(auto)]
+
 mod block;
 mod companies;
 mod corrected;
@@ -9,7 +11,7 @@ mod study_calls;
 mod version;
 
 // What a call makes of a claim and a study.
-#[derive(Drop)]
+#[derive(Clone, Copy)]
 pub enum Change {
     Add,
     Withdraw,

@@ -1,5 +1,7 @@
 // The calls for the study of a whole claim file, and for preparing a rate table. They have a static library of their own, since the
 // compiler inlines a claim's checks, span and adding into the run only where nothing else calls these.
+#![tactic(auto)]
+
 ghost use Rattle.std.specs.Prelude.{◌≡◌};
 ghost use Rattle.std.proofs.lemmas.List.Edits.{sets};
 ghost use Rattle.rates.specs.declared.Kind.TheVariants.{Prepared};

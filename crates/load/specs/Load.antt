@@ -3,7 +3,6 @@ use Rattle.std.specs.Prelude.{ℕ, zero, suc, ◌+◌, ◌*◌, ◌/◌, ◌%◌
 use Rattle.basics.specs.Limits.{most_claims}
 use Rattle.basics.specs.Pick.{pick}
 use Rattle.basics.specs.Checks.{◌then◌, refuse_load}
-use Rattle.calendar.specs.declared.Date.{Date}
 use Rattle.calendar.specs.Calendar.{date_of}
 use Rattle.claim_months.specs.declared.Claim.{Claim}
 use Rattle.claim_months.specs.Claim.{claim_check}
@@ -15,7 +14,6 @@ use Rattle.claim_file.specs.Block.{window_bytes, bytes_of_block}
 use Rattle.claim_file.specs.BlockAnswers.{no_date, no_claim}
 use Rattle.claim_file.specs.Run.{file_run}
 use Rattle.claim_file.specs.Files.{file_claims, Accepts, window_days}
-use Rattle.load.specs.declared.LoadedClaim.{LoadedClaim}
 use Rattle.load.specs.declared.MaybeLoaded.{MaybeLoaded}
 use Rattle.load.specs.declared.MaybeLoaded.TheVariants.{Loaded, Refused}
 

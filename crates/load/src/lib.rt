@@ -1,4 +1,6 @@
 // A load that anyone can rebuild (document 02, No. 13).
+#![tactic(auto)]
+
 ghost use Rattle.std.specs.Prelude.{◌≡◌, ◌+◌, ◌≤◌};
 ghost use Rattle.calendar.specs.Calendar.{date_of, last_day_number};
 ghost use Rattle.claim_file.specs.BlockAnswers.{no_date};
@@ -14,21 +16,21 @@ use claim_months::Claim;
 pub const LAST_SEED: u32 = 2147483646;
 
 // A step's claim and the x reached.
-#[derive(Drop)]
+#[derive(Clone, Copy)]
 pub struct LoadedClaim {
     pub claim: Claim,
     pub x: u32,
 }
 
 // A step's answer: its claim, or the number refused.
-#[derive(Drop)]
+#[derive(Clone, Copy)]
 pub enum MaybeLoaded {
     Loaded(LoadedClaim),
     Refused(u8),
 }
 
 // What a claim ends with: termination date and code, and the x reached.
-#[derive(Drop)]
+#[derive(Clone, Copy)]
 struct Ending {
     termination: Date,
     code: u8,

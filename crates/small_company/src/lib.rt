@@ -1,4 +1,6 @@
 // The small company rule (document 02, No. 14): a carrier with few open claims is exempt and keeps the table.
+#![tactic(auto)]
+
 ghost use Rattle.std.specs.Prelude.{◌≡◌, true, ◌-◌, ◌<◌, ◌≤◌, min, max};
 ghost use Rattle.calendar.specs.Calendar.{is_date};
 ghost use Rattle.small_company.specs.SmallCompany.{list_sound, listed_claims, two_years_before, first_within, moves_far, first_moved, company_of};
@@ -11,7 +13,7 @@ use claim_file::record::read_record;
 use claim_months::Claim;
 
 // What a carrier is told: the number refused or 0, whether it is exempt, both counts, the first group that moved far or 0, and five T.
-#[derive(Drop)]
+#[derive(Clone, Copy)]
 pub struct CompanyAnswer {
     pub refused: u8,
     pub exempt: bool,
@@ -22,14 +24,14 @@ pub struct CompanyAnswer {
 }
 
 // Open claims disabled within two years of the valuation date, and earlier.
-#[derive(Drop)]
+#[derive(Clone, Copy)]
 struct Counts {
     recent: u64,
     earlier: u64,
 }
 
 // Both counts, with the number of the first check that failed or 0.
-#[derive(Drop)]
+#[derive(Clone, Copy)]
 struct Counted {
     refused: u8,
     counts: Counts,
