@@ -1,5 +1,7 @@
 // A load as a claim file (document 02, No. 13): `ltd_load SEED SIZE FIRST LAST` writes block 0 with the window from FIRST to LAST and the
 // blocks of the load's claims to standard output. A wrong word gets a line on standard error, and then nothing is written.
+#![tactic(auto)]
+
 mod call;
 mod output;
 mod words;
@@ -8,14 +10,14 @@ use calendar::Date;
 use claim_file::Block;
 
 // A number, or none.
-#[derive(Drop)]
+#[derive(Clone, Copy)]
 enum MaybeNumber {
     Number(u32),
     NoNumber,
 }
 
 // A load, and the window of its file.
-#[derive(Drop)]
+#[derive(Clone, Copy)]
 struct Asked {
     seed: u32,
     size: u32,
@@ -24,22 +26,22 @@ struct Asked {
 }
 
 // What was asked for, or a word was wrong.
-#[derive(Drop)]
+#[derive(Clone, Copy)]
 enum MaybeAsked {
     Load(Asked),
     Wrong,
 }
 
 // A block's claims, and the x reached.
-#[derive(Drop)]
+#[derive(Clone, Copy)]
 struct LoadedBlock {
     block: Block,
     x: u32,
 }
 
-fn main() {
-    match call::asked() {
-        MaybeAsked::Load(asked) => output::write_load(asked),
+fn main(rt: HostRuntime) {
+    match call::asked(&rt, &rt.stderr()) {
+        MaybeAsked::Load(asked) => output::write_load(&rt, asked),
         MaybeAsked::Wrong => {}
     }
 }

@@ -8,7 +8,6 @@ ghost use Rattle.ltd_load.specs.Private.{Due, count_from, BlockFrom};
 use crate::{Asked, LoadedBlock};
 use claim_file::Block;
 use claim_file::record::no_claim;
-use libc::STDOUT_FILENO;
 use load::{LoadedClaim, MaybeLoaded};
 
 // The claim due and the x reached.
@@ -73,14 +72,14 @@ fn put_block(due: u32, x: u32, size: u32, number: u32, bytes: &mut [u8]) -> u32
 }
 
 // The only writer: writes the block with a number of the file asked for, and says whether it could.
-fn write_block(asked: Asked, number: u32, bytes: &[u8]) -> bool
+fn write_block(rt: &impl Print, asked: Asked, number: u32, bytes: &[u8]) -> bool
     requires { bytes.now ≡ block_asked asked number }
 {
-    io::write_all(STDOUT_FILENO, bytes)
+    rt.write_all(bytes).is_ok()
 }
 
 // Writes the blocks of claims, up to a write that fails.
-fn write_claims(asked: Asked)
+fn write_claims(rt: &impl Print, asked: Asked)
     requires { LoadAsked asked }
 {
     let mut bytes = [0u8; 512];
@@ -90,7 +89,7 @@ fn write_claims(asked: Asked)
     let mut due = 1;
     while number <= size {
         x = put_block(due, x, size, number, &mut bytes);
-        if !write_block(asked, due, &bytes) {
+        if !write_block(rt, asked, due, &bytes) {
             return;
         }
         number += 15;
@@ -99,12 +98,12 @@ fn write_claims(asked: Asked)
 }
 
 // Writes the claim file, up to a write that fails.
-pub(crate) fn write_load(asked: Asked)
+pub(crate) fn write_load(rt: &impl Print, asked: Asked)
     requires { LoadAsked asked }
 {
     let mut bytes = [0u8; 512];
     claim_file::blocks::write_window(asked.first, asked.last, &mut bytes);
-    if write_block(asked, 0, &bytes) {
-        write_claims(asked);
+    if write_block(rt, asked, 0, &bytes) {
+        write_claims(rt, asked);
     }
 }

@@ -8,11 +8,10 @@ use lib.Dec.{eqb}
 use lib.IntN.{ℤ, pos, negsuc}
 use lib.Signed.{lt_z}
 use borrow.Author.Tests.{le-ltb}
-use Rattle.io.specs.Counts.{clamp_len}
 use Rattle.basics.specs.Pick.{pick}
 use Rattle.basics.proofs.Tests.{tests, by}
 use Rattle.ltd_study.specs.declared.input.Filled.{Filled}
-use Rattle.ltd_study.specs.Input.{is_failure, read_answer, fed_count}
+use Rattle.ltd_study.specs.Input.{clamp_len, is_failure, read_answer, fed_count}
 use Rattle.ltd_study.specs.Private.{Filling}
 
 clamped-within : (z : ℤ) (n : ℕ) → clamp_len z n ≤ n

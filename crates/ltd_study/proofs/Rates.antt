@@ -145,6 +145,10 @@ module _ (whole buffer : List ℕ) (n count : ℕ) (l : length whole ≡ 4 * n) 
         ∙ take_at (take n numbers ++ back) rest (n + m) (length-append (take n numbers) back ∙ omega (arith, length-take-le n numbers (omega arith), back-length))
         ∙ ap (λ (x : List ℕ). x ++ back) e ∙ joined
 
+-- a file that isn't there has no rates
+pub no_rates : (numbers : List ℕ) → RatesRead 0 numbers
+no_rates numbers = let e = rates-none true [] 0 refl (sym (fit-failed true 0 refl)) in record { failed = true; bytes = []; stored = sym e; counted = sym (ap length e) }
+
 -- rates read so far: there are bytes whose rates they all are
 pub record ReadSo (n : ℕ) (numbers : List ℕ) : Type 0 where
   pub whole : List ℕ

@@ -1,6 +1,5 @@
 -- Document 01, Figures to hold it to: rates from `rates.bin`, the claim file on standard input; and what the program prints of them.
-use Rattle.std.specs.Prelude.{ℕ, ◌+◌, ◌*◌, ◌/◌, ◌%◌, ◌≡◌, Bool, true, false, not, ◌&&◌, List, [], length, take, leb, eqb, ℤ, pos, negsuc}
-use Rattle.io.specs.Counts.{clamp_len}
+use Rattle.std.specs.Prelude.{ℕ, ◌+◌, ◌*◌, ◌/◌, ◌%◌, ◌≡◌, min, Bool, true, false, not, ◌&&◌, List, [], length, take, leb, eqb, ℤ, pos, negsuc}
 use Rattle.basics.specs.Limits.{block_bytes}
 use Rattle.basics.specs.Pick.{pick}
 use Rattle.basics.specs.Tables.{table}
@@ -20,6 +19,11 @@ block_rates bytes n = table n (λ k. four_at bytes (4 * k))
 abbrev pub is_failure : ℤ → Bool
 is_failure (pos n) = false
 is_failure (negsuc n) = true
+
+-- a read's answer as a count: at most the bytes that there is room for, and none where it is below 0
+abbrev pub clamp_len : ℤ → ℕ → ℕ
+clamp_len (pos k) most = min k most
+clamp_len (negsuc k) most = 0
 
 -- what a read of at most `room` bytes comes to: no byte is the end of the input, or a failure
 abbrev pub read_answer : ℤ → ℕ → Filled

@@ -1,5 +1,5 @@
-// Reading: `rates.bin` into the rate table, and standard input into the file run, both through one lent buffer of 2,048 bytes.
-ghost use Rattle.std.specs.Prelude.{◌≡◌, false, ◌+◌, ◌*◌, ◌≤◌, ◌<◌, length, take, drop};
+// Reading: `rates.bin` into the rate table, and standard input into the file run, each from a reader and both through one lent buffer of 2,048 bytes.
+ghost use Rattle.std.specs.Prelude.{◌≡◌, false, ◌+◌, ◌*◌, ◌≤◌, ◌<◌, min, length, take, drop};
 ghost use Rattle.std.proofs.lemmas.List.Edits.{sets};
 ghost use Rattle.rates.specs.declared.Kind.TheVariants.{Prepared};
 ghost use Rattle.rates.specs.Prepared.{prepared_of};
@@ -8,30 +8,50 @@ ghost use Rattle.claim_file.specs.Bytes.{four_at};
 ghost use Rattle.claim_file.specs.Run.{fed};
 ghost use Rattle.claim_file.specs.PreparedRuns.{adding_with};
 ghost use Rattle.claim_file.specs.LentRuns.{run_with};
-ghost use Rattle.ltd_study.specs.Input.{block_rates, read_answer, fed_count, rates_fit, RatesRead, InputRun, StudyRun};
+ghost use Rattle.ltd_study.specs.Input.{block_rates, clamp_len, read_answer, fed_count, rates_fit, RatesRead, InputRun, StudyRun};
 ghost use Rattle.ltd_study.specs.Private.{Filling, FedSome};
 
 use claim_file::LentRun;
 use claim_file::run::feed_lent;
-use libc::STDIN_FILENO;
 use rates::Kind;
 use rates::prepared::prepare;
+use std::io::Read;
 
 // How many bytes came, whether the input is over behind them, and whether a read failed there.
-#[derive(Drop)]
+#[derive(Clone, Copy)]
 struct Filled {
     count: usize,
     over: bool,
     failed: bool,
 }
 
-// What a read's answer says of the bytes that it was handed.
+// A read's answer as a count of at most so many bytes: none where it is below 0.
+fn clamped(got: isize, most: usize) -> usize
+    ensures bound { result ≤ most }
+    ensures value { result ≡ clamp_len got most }
+{
+    if got > 0 {
+        min_len(got as usize, most)
+    } else {
+        0
+    }
+}
+
+fn min_len(a: usize, b: usize) -> usize
+    ensures a_bound { result ≤ a }
+    ensures b_bound { result ≤ b }
+    ensures value { result ≡ min a b }
+{
+    if a < b { a } else { b }
+}
+
+// What a read's answer says of the bytes that it was handed: how many it gave, or a number below 0 where it failed.
 fn taken(got: isize, bytes: &[u8]) -> Filled
     ensures value { result ≡ read_answer got (length bytes.now) }
     ensures count_in_bounds { result.count ≤ length bytes.now }
     ensures count_nonzero { result.over ≡ false → 0 < result.count }
 {
-    let count = io::count(got, bytes);
+    let count = clamped(got, bytes.len());
     Filled {
         count,
         over: count == 0,
@@ -40,21 +60,24 @@ fn taken(got: isize, bytes: &[u8]) -> Filled
 }
 
 // One read.
-fn read_some(fd: i32, bytes: &mut [u8]) -> Filled
+fn read_some(reader: &mut impl Read, bytes: &mut [u8]) -> Filled
     ensures count_in_bounds { result.count ≤ length bytes.old }
     ensures count_nonzero { result.over ≡ false → 0 < result.count }
 {
-    let got = libc::read(fd, bytes);
+    let got = match reader.read(bytes) {
+        Ok(count) => count as isize,
+        Err(_) => -1,
+    };
     taken(got, bytes)
 }
 
 // Reads until the bytes are full, the input ends or a read fails: a pipe hands out fewer bytes than asked.
-fn fill(fd: i32, bytes: &mut [u8]) -> Filled
+fn fill(reader: &mut impl Read, bytes: &mut [u8]) -> Filled
     ensures { Filling (length bytes.old) result }
 {
     let mut done = 0;
     while done < bytes.len() {
-        let some = read_some(fd, &mut bytes[done..]);
+        let some = read_some(reader, &mut bytes[done..]);
         if some.over {
             return Filled {
                 count: done,
@@ -118,7 +141,7 @@ fn are_rates(filled: Filled, rates: usize) -> bool
 }
 
 // Reads `rates.bin` into the table, and answers how many rates it has.
-fn read_rates(fd: i32, table: &mut [u32], buffer: &mut [u8]) -> usize
+fn read_rates(file: &mut impl Read, table: &mut [u32], buffer: &mut [u8]) -> usize
     requires table_len { length table.old ≡ 15329 }
     requires buffer_len { length buffer.old ≡ 2048 }
     ensures rates_read { RatesRead result table.new }
@@ -126,7 +149,7 @@ fn read_rates(fd: i32, table: &mut [u32], buffer: &mut [u8]) -> usize
 {
     let mut rates = 0;
     loop {
-        let filled = fill(fd, buffer);
+        let filled = fill(file, buffer);
         if !are_rates(filled, rates) {
             return 0;
         }
@@ -136,6 +159,19 @@ fn read_rates(fd: i32, table: &mut [u32], buffer: &mut [u8]) -> usize
         if filled.over {
             return rates;
         }
+    }
+}
+
+// The same of a file that may be missing, which is closed behind it.
+fn rates_of<F: Read + Drop>(file: Option<F>, table: &mut [u32], buffer: &mut [u8]) -> usize
+    requires table_len { length table.old ≡ 15329 }
+    requires buffer_len { length buffer.old ≡ 2048 }
+    ensures rates_read { RatesRead result table.new }
+    ensures upper_bound { result ≤ 15328 }
+{
+    match file {
+        Some(mut file) => read_rates(&mut file, table, buffer),
+        None => 0,
     }
 }
 
@@ -167,7 +203,12 @@ fn feed_bytes(
 
 // The run with standard input fed, four blocks at a time. A proved loop has to end, and nothing says that the input does: the loop counts
 // its turns down, from a number that no run uses up.
-fn feed_input(table: &[u32], sums: &mut [i64; 80], buffer: &mut [u8]) -> LentRun
+fn feed_input(
+    input: &mut impl Read,
+    table: &[u32],
+    sums: &mut [i64; 80],
+    buffer: &mut [u8],
+) -> LentRun
     requires sums_value { sums.old ≡ none }
     requires buffer_len { length buffer.old ≡ 2048 }
     ensures { FedSome (adding_with Prepared table.now) (run_with result sums.new) }
@@ -175,7 +216,7 @@ fn feed_input(table: &[u32], sums: &mut [i64; 80], buffer: &mut [u8]) -> LentRun
     let mut run = LentRun::start();
     let mut turns = u64::MAX;
     while turns > 0 {
-        let filled = fill(STDIN_FILENO, buffer);
+        let filled = fill(input, buffer);
         run = feed_bytes(run, table, buffer, fed_count(filled), sums);
         if run.refused != 0 {
             return run;
@@ -189,12 +230,17 @@ fn feed_input(table: &[u32], sums: &mut [i64; 80], buffer: &mut [u8]) -> LentRun
 }
 
 // The file run of standard input.
-fn run_input(table: &[u32], sums: &mut [i64; 80], buffer: &mut [u8]) -> LentRun
+fn run_input(
+    input: &mut impl Read,
+    table: &[u32],
+    sums: &mut [i64; 80],
+    buffer: &mut [u8],
+) -> LentRun
     requires sums_value { sums.old ≡ none }
     requires buffer_len { length buffer.old ≡ 2048 }
     ensures { InputRun table.now (run_with result sums.new) }
 {
-    let run = feed_input(table, sums, buffer);
+    let run = feed_input(input, table, sums, buffer);
     run.end()
 }
 
@@ -209,27 +255,37 @@ fn prepare_rates(table: &mut [u32], rates: usize)
     prepare(&mut table[0..numbers]);
 }
 
-// The file run of standard input under the rates that a descriptor reads. The descriptor is closed first: with standard input closed it
+// The file run of the input under the rates of a file, if it is there. The file is closed first: with standard input closed its descriptor
 // has that number, and the rest of `rates.bin` is no claim file.
-fn run_under(fd: i32, table: &mut [u32], sums: &mut [i64; 80], buffer: &mut [u8]) -> LentRun
+fn run_under<F: Read + Drop>(
+    file: Option<F>,
+    input: &mut impl Read,
+    table: &mut [u32],
+    sums: &mut [i64; 80],
+    buffer: &mut [u8],
+) -> LentRun
     requires table_len { length table.old ≡ 15329 }
     requires sums_value { sums.old ≡ none }
     requires buffer_len { length buffer.old ≡ 2048 }
     ensures { StudyRun (run_with result sums.new) }
 {
-    let rates = read_rates(fd, table, buffer);
-    libc::close(fd);
+    let rates = rates_of(file, table, buffer);
     prepare_rates(table, rates);
     let numbers = rates + 1;
-    run_input(&table[0..numbers], sums, buffer)
+    run_input(input, &table[0..numbers], sums, buffer)
 }
 
 // The same with a table of its own.
-pub fn run_with(fd: i32, sums: &mut [i64; 80], buffer: &mut [u8]) -> LentRun
+pub fn run_with<F: Read + Drop>(
+    file: Option<F>,
+    input: &mut impl Read,
+    sums: &mut [i64; 80],
+    buffer: &mut [u8],
+) -> LentRun
     requires sums_value { sums.old ≡ none }
     requires buffer_len { length buffer.old ≡ 2048 }
     ensures { StudyRun (run_with result sums.new) }
 {
     let mut table = [0u32; 15329];
-    run_under(fd, &mut table, sums, buffer)
+    run_under(file, input, &mut table, sums, buffer)
 }

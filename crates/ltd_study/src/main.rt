@@ -3,12 +3,29 @@
 //
 // All working memory fits 65,536 bytes, of which the rate table takes 61,316. So the file is opened, with the 4,096 bytes of a
 // path, before the table is made, and all bytes, read or to be printed, go through one buffer.
+#![tactic(auto)]
+
 mod input;
 mod output;
 
-fn main() {
-    let rates = os::open_read(b"rates.bin");
+use std::fs::{File, Files};
+use std::io::Read;
+
+// The file of the rates, if it is there. Out of line, so that the bytes of its path are given back before the table is made.
+#[inline(never)]
+fn rates_file<R: Files>(rt: &R) -> Option<R::File> {
+    File::open(rt, "rates.bin").ok()
+}
+
+// What the program prints under the rates of a file, if it is there. Out of line, as what it has on the stack leaves no room for the path.
+#[inline(never)]
+fn print_study<F: Read + Drop>(rt: &HostRuntime, rates: Option<F>) {
     let mut buffer = [0u8; 2048];
-    let count = output::study_text(rates, &mut buffer);
-    output::print_bytes(&buffer[..count]);
+    let count = output::study_text(rates, &mut rt.stdin(), &mut buffer);
+    output::print_bytes(rt, &buffer[..count]);
+}
+
+fn main(rt: HostRuntime) {
+    let rates = rates_file(&rt);
+    print_study(&rt, rates);
 }

@@ -1,24 +1,26 @@
 // Printing: what `report` makes of the run, handed to the system.
 ghost use Rattle.std.specs.Prelude.{◌≤◌, ◌≡◌, length, take};
-ghost use Rattle.io.specs.Counts.{IsPrefixLen};
+ghost use Rattle.report.specs.Counts.{IsPrefixLen};
 ghost use Rattle.ltd_study.specs.Input.{StudyText};
 
 use crate::input::run_with;
-use libc::STDOUT_FILENO;
+use std::io::Read;
 
 // One write; no bytes where it failed.
-fn write_some(bytes: &[u8]) -> usize
+fn write_some(rt: &impl Print, bytes: &[u8]) -> usize
     ensures { result ≤ length bytes.now }
 {
-    io::count(libc::write(STDOUT_FILENO, bytes), bytes)
+    match rt.write_some(bytes) {
+        Ok(count) => count,
+        Err(_) => 0,
+    }
 }
 
-// The only writer: writes the bytes, up to a write that fails. The one of `io` has a buffer of 4,096 bytes, too large beside the
-// rate table, whose place the compiler may keep to the end.
-pub fn print_bytes(bytes: &[u8]) {
+// The only writer: writes the bytes, up to a write that fails.
+pub fn print_bytes(rt: &impl Print, bytes: &[u8]) {
     let mut done = 0;
     while done < bytes.len() {
-        let more = write_some(&bytes[done..]);
+        let more = write_some(rt, &bytes[done..]);
         if more == 0 {
             return;
         }
@@ -26,13 +28,17 @@ pub fn print_bytes(bytes: &[u8]) {
     }
 }
 
-// Puts what the program prints into the buffer, under the rates that a descriptor reads, and answers its length.
-pub fn study_text(fd: i32, buffer: &mut [u8]) -> usize
+// Puts what the program prints of the input into the buffer, under the rates of a file, if it is there, and answers its length.
+pub fn study_text<F: Read + Drop>(
+    rates: Option<F>,
+    input: &mut impl Read,
+    buffer: &mut [u8],
+) -> usize
     requires { length buffer.old ≡ 2048 }
     ensures study_text { StudyText (take result buffer.new) }
     ensures prefix_len { IsPrefixLen result buffer.new }
 {
     let mut sums = [0i64; 80];
-    let run = run_with(fd, &mut sums, buffer);
+    let run = run_with(rates, input, &mut sums, buffer);
     report::run_text(run, &sums, buffer)
 }

@@ -4,3 +4,4 @@ pub mod Texts
 pub mod Lines
 pub mod RunLines
 pub mod TextLines
+mod Powers

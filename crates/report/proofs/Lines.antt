@@ -9,7 +9,7 @@ use lib.ListN.{length, take, drop}
 use lib.Seq.{sets, sets-eq, length-sets, length-take-le}
 use lib.Dec.{ltb}
 use borrow.Author.Tests.{lt-ltb, le-ltb}
-use Rattle.io.specs.Counts.{IsPrefixLen}
+use Rattle.report.specs.Counts.{IsPrefixLen}
 use Rattle.basics.specs.Pick.{pick}
 use Rattle.basics.proofs.Tests.{is-pick}
 use Rattle.report.specs.Text.{line_answer, line_after}

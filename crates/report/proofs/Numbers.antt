@@ -9,7 +9,7 @@ use native.Mathlib.Nat.{pow-succ', one-le-pow}
 use lib.ListN.{length, length-append}
 use lib.Dec.{ltb}
 use lib.IntN.{negsuc}
-use Rattle.io.specs.Digits.{hex_digit_ascii, last_digits, IsDigitCount}
+use Rattle.report.specs.Digits.{hex_digit_ascii, last_digits, IsDigitCount}
 use Rattle.basics.specs.Pick.{pick}
 use Rattle.basics.proofs.Tests.{tests, by, is-pick}
 use Rattle.report.specs.Text.{places_up_to, places, number_text, signed_text}

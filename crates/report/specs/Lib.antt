@@ -1,3 +1,5 @@
--- `Text`: what the program prints. `Private`: what only private functions' contracts need.
+-- `Text`: what the program prints. `Digits`, `Counts`: a number's digits, and the bytes lent of a list. `Private`: what only private functions' contracts need.
 pub mod Text
+pub mod Digits
+pub mod Counts
 pub mod Private

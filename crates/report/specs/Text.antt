@@ -1,6 +1,6 @@
 -- Document 01, Figures to hold it to: what the program prints, as bytes.
 use Rattle.std.specs.Prelude.{ℕ, zero, suc, ◌+◌, ◌/◌, ◌≡◌, List, [], ◌∷◌, ◌++◌, length, get_or, drop, leb, ltb, eqb, ℤ, pos, negsuc}
-use Rattle.io.specs.Digits.{last_digits}
+use Rattle.report.specs.Digits.{last_digits}
 use Rattle.basics.specs.Pick.{pick}
 use Rattle.study.specs.Sums.{sum_at}
 use Rattle.valuation.specs.declared.MaybeFactor.{MaybeFactor}

@@ -1,12 +1,15 @@
 // What the program prints, line by line, as bytes in a small lent list: the table's head, the line of a group, where a file was
 // refused, and which of them a run has.
+#![tactic(auto)]
+
 ghost use Rattle.std.specs.Prelude.{◌≡◌, ◌≤◌, length};
-ghost use Rattle.io.specs.Counts.{IsPrefixLen};
+ghost use Rattle.report.specs.Counts.{IsPrefixLen};
 ghost use Rattle.claim_file.specs.LentRuns.{run_with};
 ghost use Rattle.report.specs.Text.{table_head, group_line, refusal_line, run_text, run_line, line_answer, line_after};
 ghost use Rattle.report.specs.Private.{Put};
 
 mod columns;
+mod digits;
 mod puts;
 
 use claim_file::LentRun;

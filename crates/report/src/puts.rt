@@ -3,6 +3,8 @@ ghost use Rattle.std.specs.Prelude.{◌≡◌, [], ◌∷◌, ◌+◌, ◌≤◌
 ghost use Rattle.report.specs.Text.{number_text, count_column, sum_column};
 ghost use Rattle.report.specs.Private.{Put};
 
+use crate::digits::decimal;
+
 pub(crate) fn put_byte(byte: u8, at: usize, line: &mut [u8]) -> usize
     requires { at < length line.old }
     ensures { Put 1 line.old at (byte ∷ []) line.new result }
@@ -26,7 +28,7 @@ pub(crate) fn put_number(number: u64, at: usize, line: &mut [u8]) -> usize
     ensures { Put 20 line.old at (number_text number) line.new result }
 {
     let mut text = [0u8; 20];
-    let digits = io::decimal(number, &mut text);
+    let digits = decimal(number, &mut text);
     put_text(&text[..digits], at, line)
 }
 

@@ -1,0 +1,10 @@
+-- `seed` meets its contract: a number that it answers passed both tests. Assumes nothing.
+use native.Mathlib.Omega.{arith}
+use borrow.Author.Rules.{rules}
+use borrow.Author.Tests.{le-leb}
+use Rattle.load.specs.Load.{seed_sound}
+use Rattle.ltd_load.proofs.call.seed.Goals as goal
+
+pub returns-then-seed-le2147483646 : goal.returns-then-seed-le2147483646
+unfolding seed_sound
+returns-then-seed-le2147483646 g c = let n = c.in-Number.seed in simp (le-leb 1 n (omega arith), le-leb n 2147483646 (omega arith))
