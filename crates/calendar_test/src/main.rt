@@ -1,11 +1,14 @@
 // Runs the calendar over every day from 1950-01-01 to 2099-12-31, against one that counts day by day here, and at its edges.
+#![tactic(auto)]
+
 use calendar::{Date, Day, MaybeDate, MaybeDay, MaybeMonth};
+use std::io;
 use std::num::{wrapping_add_u16, wrapping_add_u32, wrapping_add_u64};
 use test_support::dates::date;
 use test_support::print::{put, put_number};
 
 // What the calendar answers otherwise than the count here, by kind, and the sums of what it answers.
-#[derive(Drop)]
+#[derive(Clone, Copy)]
 struct Tally {
     days: u32,
     dates: u64,
@@ -17,9 +20,9 @@ struct Tally {
     day_sum: u64,
 }
 
-fn main() {
-    report(every_day());
-    edges();
+fn main(rt: HostRuntime) -> io::Result<()> {
+    report(&rt, every_day())?;
+    edges(&rt)
 }
 
 fn every_day() -> Tally {
@@ -41,15 +44,15 @@ fn every_day() -> Tally {
     t
 }
 
-fn report(t: Tally) {
-    line(b"days run", t.days as u64);
-    line(b"wrong dates", t.dates);
-    line(b"wrong day numbers", t.numbers);
-    line(b"wrong months", t.months);
-    line(b"wrong ends of months", t.ends);
-    line(b"sum of years", t.year_sum);
-    line(b"sum of months", t.month_sum);
-    line(b"sum of days", t.day_sum);
+fn report(rt: &impl Print, t: Tally) -> io::Result<()> {
+    line(rt, b"days run", t.days as u64)?;
+    line(rt, b"wrong dates", t.dates)?;
+    line(rt, b"wrong day numbers", t.numbers)?;
+    line(rt, b"wrong months", t.months)?;
+    line(rt, b"wrong ends of months", t.ends)?;
+    line(rt, b"sum of years", t.year_sum)?;
+    line(rt, b"sum of months", t.month_sum)?;
+    line(rt, b"sum of days", t.day_sum)
 }
 
 // One day more: the date that the count has reached is the one of that number, both ways.
@@ -163,93 +166,95 @@ fn date_of(found: MaybeDate) -> Date {
 }
 
 // The dates and numbers at which an answer begins or ends, and those with none.
-fn edges() {
+fn edges(rt: &impl Print) -> io::Result<()> {
     let right = [19500101, 20000229, 20991231];
-    show_dates(&right);
+    show_dates(rt, &right)?;
     let no_month_or_day = [19500001, 19501301, 19500100, 19500431, 20010229, 19000229];
-    show_dates(&no_month_or_day);
+    show_dates(rt, &no_month_or_day)?;
     let no_year = [101, 655350101, 19491231, 21000101];
-    show_dates(&no_year);
-    show_number(0);
-    show_number(54786);
-    show_number(54787);
-    show_number(4294967295);
-    show_month(23399);
-    show_month(23400);
-    show_month(25200);
-    show_month(25201);
+    show_dates(rt, &no_year)?;
+    show_number(rt, 0)?;
+    show_number(rt, 54786)?;
+    show_number(rt, 54787)?;
+    show_number(rt, 4294967295)?;
+    show_month(rt, 23399)?;
+    show_month(rt, 23400)?;
+    show_month(rt, 25200)?;
+    show_month(rt, 25201)
 }
 
 // Dates written as digits, a line each.
-fn show_dates(list: &[u32]) {
+fn show_dates(rt: &impl Print, list: &[u32]) -> io::Result<()> {
     let mut i = 0;
     while i < list.len() {
-        show_date(date(list[i]));
+        show_date(rt, date(list[i]))?;
         i += 1;
     }
+    Ok(())
 }
 
-fn show_date(date: Date) {
-    put_date(date);
+fn show_date(rt: &impl Print, date: Date) -> io::Result<()> {
+    put_date(rt, date)?;
     if calendar::is_date(date) {
-        put(b" is a date, ");
+        put(rt, b" is a date, ")?;
     } else {
-        put(b" is no date, ");
+        put(rt, b" is no date, ")?;
     }
-    put_day(calendar::day_number(date));
-    put(b"\n");
+    put_day(rt, calendar::day_number(date))?;
+    put(rt, b"\n")
 }
 
-fn show_number(number: u32) {
-    put_number(number as u64);
+fn show_number(rt: &impl Print, number: u32) -> io::Result<()> {
+    put_number(rt, number as u64)?;
     match calendar::date_of_day(Day(number)) {
         MaybeDate::Found(date) => {
-            put(b" is ");
-            put_date(date);
+            put(rt, b" is ")?;
+            put_date(rt, date)?;
         }
-        MaybeDate::NoDate => put(b" has no date"),
+        MaybeDate::NoDate => put(rt, b" has no date")?,
     }
     match calendar::month_of_day(Day(number)) {
         MaybeMonth::Index(index) => {
-            put(b", month ");
-            put_number(index as u64);
+            put(rt, b", month ")?;
+            put_number(rt, index as u64)?;
         }
-        MaybeMonth::NoMonth => put(b", no month"),
+        MaybeMonth::NoMonth => put(rt, b", no month")?,
     }
-    put(b"\n");
+    put(rt, b"\n")
 }
 
-fn show_month(index: u32) {
-    put(b"month ");
-    put_number(index as u64);
-    put(b": ");
-    put_day(calendar::first_day(index));
-    put(b" to ");
-    put_day(calendar::last_day(index));
-    put(b"\n");
+fn show_month(rt: &impl Print, index: u32) -> io::Result<()> {
+    put(rt, b"month ")?;
+    put_number(rt, index as u64)?;
+    put(rt, b": ")?;
+    put_day(rt, calendar::first_day(index))?;
+    put(rt, b" to ")?;
+    put_day(rt, calendar::last_day(index))?;
+    put(rt, b"\n")
 }
 
-fn put_day(day: MaybeDay) {
+fn put_day(rt: &impl Print, day: MaybeDay) -> io::Result<()> {
     match day {
         MaybeDay::Known(d) => {
-            put(b"day ");
-            put_number(d.0 as u64);
+            put(rt, b"day ")?;
+            put_number(rt, d.0 as u64)?;
         }
-        MaybeDay::NoDay => put(b"no day"),
+        MaybeDay::NoDay => put(rt, b"no day")?,
     }
+    Ok(())
 }
 
-fn put_date(date: Date) {
-    put_number(date.year as u64);
-    put(b"-");
-    put_number(date.month as u64);
-    put(b"-");
-    put_number(date.day as u64);
+fn put_date(rt: &impl Print, date: Date) -> io::Result<()> {
+    put_number(rt, date.year as u64)?;
+    put(rt, b"-")?;
+    put_number(rt, date.month as u64)?;
+    put(rt, b"-")?;
+    put_number(rt, date.day as u64)
 }
 
-fn line(label: &[u8], number: u64) {
-    put(label);
-    put(b": ");
-    put_number(number);
-    put(b"\n");
+fn line(rt: &impl Print, label: &[u8], number: u64) -> io::Result<()> {
+    put(rt, label)?;
+    put(rt, b": ")?;
+    put_number(rt, number)?;
+    put(rt, b"\n")
 }

@@ -1,45 +1,48 @@
 // Steps of loads: the first and the last claims of a few seeds, and the edges of seed, size and claim number.
+#![tactic(auto)]
+
 use calendar::Date;
 use claim_months::Claim;
 use load::{MaybeLoaded, load_claim};
+use std::io;
 use test_support::print::{put, put_number};
 
-fn number(word: &[u8], n: u64) {
-    put(word);
-    put_number(n);
+fn number(rt: &impl Print, word: &[u8], n: u64) -> io::Result<()> {
+    put(rt, word)?;
+    put_number(rt, n)
 }
 
-fn date(word: &[u8], date: Date) {
-    number(word, date.year as u64);
-    number(b"-", date.month as u64);
-    number(b"-", date.day as u64);
+fn date(rt: &impl Print, word: &[u8], date: Date) -> io::Result<()> {
+    number(rt, word, date.year as u64)?;
+    number(rt, b"-", date.month as u64)?;
+    number(rt, b"-", date.day as u64)
 }
 
-fn put_claim(claim: Claim) {
-    number(b": claim ", claim.number as u64);
-    date(b" disability ", claim.disability);
-    date(b" bcd ", claim.bcd);
-    date(b" termination ", claim.termination);
-    date(b" maximum ", claim.maximum);
-    number(b" status ", claim.status as u64);
-    number(b" code ", claim.code as u64);
-    number(b" cell ", claim.cell as u64);
-    number(b" benefit ", claim.benefit as u64);
+fn put_claim(rt: &impl Print, claim: Claim) -> io::Result<()> {
+    number(rt, b": claim ", claim.number as u64)?;
+    date(rt, b" disability ", claim.disability)?;
+    date(rt, b" bcd ", claim.bcd)?;
+    date(rt, b" termination ", claim.termination)?;
+    date(rt, b" maximum ", claim.maximum)?;
+    number(rt, b" status ", claim.status as u64)?;
+    number(rt, b" code ", claim.code as u64)?;
+    number(rt, b" cell ", claim.cell as u64)?;
+    number(rt, b" benefit ", claim.benefit as u64)
 }
 
 // A step and its answer.
-fn show(x: u32, size: u32, due: u32) {
-    number(b"x ", x as u64);
-    number(b" size ", size as u64);
-    number(b" number ", due as u64);
+fn show(rt: &impl Print, x: u32, size: u32, due: u32) -> io::Result<()> {
+    number(rt, b"x ", x as u64)?;
+    number(rt, b" size ", size as u64)?;
+    number(rt, b" number ", due as u64)?;
     match load_claim(x, size, due) {
         MaybeLoaded::Loaded(step) => {
-            put_claim(step.claim);
-            number(b" x ", step.x as u64);
+            put_claim(rt, step.claim)?;
+            number(rt, b" x ", step.x as u64)?;
         }
-        MaybeLoaded::Refused(refused) => number(b": refused ", refused as u64),
+        MaybeLoaded::Refused(refused) => number(rt, b": refused ", refused as u64)?,
     }
-    put(b"\n");
+    put(rt, b"\n")
 }
 
 // The x that a step reaches; a refused one stays where it is.
@@ -51,80 +54,81 @@ fn reached(x: u32, size: u32, due: u32) -> u32 {
 }
 
 // The first claims of a load, and its last ones.
-fn ends(seed: u32, size: u32) {
+fn ends(rt: &impl Print, seed: u32, size: u32) -> io::Result<()> {
     let mut x = seed;
     for due in 1..size {
         if due <= 4 {
-            show(x, size, due);
+            show(rt, x, size, due)?;
         }
         x = reached(x, size, due);
     }
-    show(x, size, size);
+    show(rt, x, size, size)
 }
 
-fn loads(size: u32) {
-    ends(1, size);
-    ends(2, size);
-    ends(48271, size);
-    ends(1073741824, size);
-    ends(2147483646, size);
+fn loads(rt: &impl Print, size: u32) -> io::Result<()> {
+    ends(rt, 1, size)?;
+    ends(rt, 2, size)?;
+    ends(rt, 48271, size)?;
+    ends(rt, 1073741824, size)?;
+    ends(rt, 2147483646, size)
 }
 
 // Draws at their ends: the first and the last disability day, EP 15 and 365, closed on BCD and 3,999 days after it; and nearly the latest day
 // that a load has.
-fn drawn() {
-    show(20000, 1, 1);
-    show(28369, 1, 1);
-    show(1412, 1, 1);
-    show(1532, 1, 1);
-    show(13462, 1, 1);
-    show(10852, 1, 1);
-    show(428558050, 1, 1);
+fn drawn(rt: &impl Print) -> io::Result<()> {
+    show(rt, 20000, 1, 1)?;
+    show(rt, 28369, 1, 1)?;
+    show(rt, 1412, 1, 1)?;
+    show(rt, 1532, 1, 1)?;
+    show(rt, 13462, 1, 1)?;
+    show(rt, 10852, 1, 1)?;
+    show(rt, 428558050, 1, 1)
 }
 
 // Each code of closed claims, and the same draws of open ones.
-fn codes() {
+fn codes(rt: &impl Print) -> io::Result<()> {
     for x in 2..11 {
-        show(x, 1, 1);
+        show(rt, x, 1, 1)?;
     }
+    Ok(())
 }
 
-fn seeds(size: u32, due: u32) {
-    show(0, size, due);
-    show(1, size, due);
-    show(2147483646, size, due);
-    show(2147483647, size, due);
-    show(2147483648, size, due);
-    show(4294967295, size, due);
+fn seeds(rt: &impl Print, size: u32, due: u32) -> io::Result<()> {
+    show(rt, 0, size, due)?;
+    show(rt, 1, size, due)?;
+    show(rt, 2147483646, size, due)?;
+    show(rt, 2147483647, size, due)?;
+    show(rt, 2147483648, size, due)?;
+    show(rt, 4294967295, size, due)
 }
 
-fn numbers(x: u32, size: u32) {
-    show(x, size, 0);
-    show(x, size, 1);
-    show(x, size, 2);
-    show(x, size, 499999);
-    show(x, size, 500000);
-    show(x, size, 500001);
-    show(x, size, 4294967295);
+fn numbers(rt: &impl Print, x: u32, size: u32) -> io::Result<()> {
+    show(rt, x, size, 0)?;
+    show(rt, x, size, 1)?;
+    show(rt, x, size, 2)?;
+    show(rt, x, size, 499999)?;
+    show(rt, x, size, 500000)?;
+    show(rt, x, size, 500001)?;
+    show(rt, x, size, 4294967295)
 }
 
-fn edges() {
-    seeds(500000, 1);
-    seeds(0, 1);
-    numbers(7, 0);
-    numbers(7, 1);
-    numbers(7, 499999);
-    numbers(7, 500000);
-    numbers(7, 500001);
-    numbers(7, 4294967295);
-    numbers(0, 500000);
+fn edges(rt: &impl Print) -> io::Result<()> {
+    seeds(rt, 500000, 1)?;
+    seeds(rt, 0, 1)?;
+    numbers(rt, 7, 0)?;
+    numbers(rt, 7, 1)?;
+    numbers(rt, 7, 499999)?;
+    numbers(rt, 7, 500000)?;
+    numbers(rt, 7, 500001)?;
+    numbers(rt, 7, 4294967295)?;
+    numbers(rt, 0, 500000)
 }
 
-fn main() {
-    loads(1);
-    loads(2);
-    loads(300);
-    drawn();
-    codes();
-    edges();
+fn main(rt: HostRuntime) -> io::Result<()> {
+    loads(&rt, 1)?;
+    loads(&rt, 2)?;
+    loads(&rt, 300)?;
+    drawn(&rt)?;
+    codes(&rt)?;
+    edges(&rt)
 }

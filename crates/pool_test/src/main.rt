@@ -1,5 +1,7 @@
 // Pools the studies of five offices in several trees and orders, with fresh studies among them, and prints one pool and whether all are equal;
 // the pools of consecutive windows and whether they total it; and what joins at the edges of the checks answer.
+#![tactic(auto)]
+
 mod claims;
 mod edges;
 mod figures;
@@ -7,13 +9,14 @@ mod figures;
 use claims::claim;
 use edges::edges;
 use figures::{figures, put_same, put_study, put_yes, same_sums, with_study};
+use std::io;
 use study::Study;
 use test_support::dates::date;
 use test_support::lists::counting;
 use test_support::print::{put, put_next, put_number};
 
 // The studies of the five offices.
-#[derive(Drop)]
+#[derive(Clone, Copy)]
 struct Offices {
     a: Study,
     b: Study,
@@ -22,29 +25,29 @@ struct Offices {
     e: Study,
 }
 
-fn main() {
+fn main(rt: HostRuntime) -> io::Result<()> {
     let table = counting();
-    let whole = pools(&table);
-    parts(&whole, &table);
-    edges();
+    let whole = pools(&rt, &table)?;
+    parts(&rt, &whole, &table)?;
+    edges(&rt)
 }
 
 // The study after the claim at a place of the list; the number refused is printed.
-fn added(study: Study, place: u32, table: &[u32; 1916]) -> Study {
+fn added(rt: &impl Print, study: Study, place: u32, table: &[u32; 1916]) -> io::Result<Study> {
     let answer = study.add(claim(place), table);
-    put_next(place as u64);
-    put(b":");
-    put_number(answer.refused as u64);
-    answer.study
+    put_next(rt, place as u64)?;
+    put(rt, b":")?;
+    put_number(rt, answer.refused as u64)?;
+    Ok(answer.study)
 }
 
 // The study of the four claims from a place on.
-fn office(fresh: Study, place: u8, table: &[u32; 1916]) -> Study {
+fn office(rt: &impl Print, fresh: Study, place: u8, table: &[u32; 1916]) -> io::Result<Study> {
     let from = place as u32;
-    let one = added(fresh, from, table);
-    let two = added(one, from + 1, table);
-    let three = added(two, from + 2, table);
-    added(three, from + 3, table)
+    let one = added(rt, fresh, from, table)?;
+    let two = added(rt, one, from + 1, table)?;
+    let three = added(rt, two, from + 2, table)?;
+    added(rt, three, from + 3, table)
 }
 
 fn opened(first: u32, last: u32) -> Study {
@@ -52,101 +55,132 @@ fn opened(first: u32, last: u32) -> Study {
     answer.study
 }
 
-fn five_offices(first: u32, last: u32, table: &[u32; 1916]) -> Offices {
-    put(b"offices");
-    put_next(first as u64);
-    put_next(last as u64);
+fn five_offices(
+    rt: &impl Print,
+    first: u32,
+    last: u32,
+    table: &[u32; 1916],
+) -> io::Result<Offices> {
+    put(rt, b"offices")?;
+    put_next(rt, first as u64)?;
+    put_next(rt, last as u64)?;
     let fresh = opened(first, last);
     let built = Offices {
-        a: office(fresh, 0, table),
-        b: office(fresh, 4, table),
-        c: office(fresh, 8, table),
-        d: office(fresh, 12, table),
-        e: office(fresh, 16, table),
+        a: office(rt, fresh, 0, table)?,
+        b: office(rt, fresh, 4, table)?,
+        c: office(rt, fresh, 8, table)?,
+        d: office(rt, fresh, 12, table)?,
+        e: office(rt, fresh, 16, table)?,
     };
-    put(b"\n");
-    built
+    put(rt, b"\n")?;
+    Ok(built)
 }
 
 // Both studies as one; the number refused is printed.
-fn pooled(one: Study, other: Study) -> Study {
+fn pooled(rt: &impl Print, one: Study, other: Study) -> io::Result<Study> {
     let answer = one.join(other);
-    put_next(answer.refused as u64);
-    answer.study
+    put_next(rt, answer.refused as u64)?;
+    Ok(answer.study)
 }
 
 // Pairs first.
-fn pairs(o: Offices) -> Study {
-    put(b"pairs");
-    let study = pooled(pooled(o.a, o.b), pooled(pooled(o.c, o.d), o.e));
-    put(b"\n");
-    study
+fn pairs(rt: &impl Print, o: Offices) -> io::Result<Study> {
+    put(rt, b"pairs")?;
+    let study = pooled(
+        rt,
+        pooled(rt, o.a, o.b)?,
+        pooled(rt, pooled(rt, o.c, o.d)?, o.e)?,
+    )?;
+    put(rt, b"\n")?;
+    Ok(study)
 }
 
 // One after the other, from the first and from the last.
-fn forward(o: Offices) -> Study {
-    put(b"forward");
-    let study = pooled(pooled(pooled(pooled(o.a, o.b), o.c), o.d), o.e);
-    put(b"\n");
-    study
+fn forward(rt: &impl Print, o: Offices) -> io::Result<Study> {
+    put(rt, b"forward")?;
+    let study = pooled(
+        rt,
+        pooled(rt, pooled(rt, pooled(rt, o.a, o.b)?, o.c)?, o.d)?,
+        o.e,
+    )?;
+    put(rt, b"\n")?;
+    Ok(study)
 }
 
-fn backward(o: Offices) -> Study {
-    put(b"backward");
-    let study = pooled(o.e, pooled(o.d, pooled(o.c, pooled(o.b, o.a))));
-    put(b"\n");
-    study
+fn backward(rt: &impl Print, o: Offices) -> io::Result<Study> {
+    put(rt, b"backward")?;
+    let study = pooled(
+        rt,
+        o.e,
+        pooled(rt, o.d, pooled(rt, o.c, pooled(rt, o.b, o.a)?)?)?,
+    )?;
+    put(rt, b"\n")?;
+    Ok(study)
 }
 
 // Another order and grouping, with fresh studies on either side of a join and one of two fresh ones.
-fn with_fresh(o: Offices, fresh: Study) -> Study {
-    put(b"with fresh");
-    let left = pooled(pooled(fresh, o.d), pooled(pooled(fresh, fresh), o.a));
-    let right = pooled(pooled(o.c, fresh), pooled(o.e, pooled(fresh, o.b)));
-    let study = pooled(pooled(right, left), fresh);
-    put(b"\n");
-    study
+fn with_fresh(rt: &impl Print, o: Offices, fresh: Study) -> io::Result<Study> {
+    put(rt, b"with fresh")?;
+    let left = pooled(
+        rt,
+        pooled(rt, fresh, o.d)?,
+        pooled(rt, pooled(rt, fresh, fresh)?, o.a)?,
+    )?;
+    let right = pooled(
+        rt,
+        pooled(rt, o.c, fresh)?,
+        pooled(rt, o.e, pooled(rt, fresh, o.b)?)?,
+    )?;
+    let study = pooled(rt, pooled(rt, right, left)?, fresh)?;
+    put(rt, b"\n")?;
+    Ok(study)
 }
 
 // All twenty claims added to one study, the last office's first.
-fn at_once(fresh: Study, table: &[u32; 1916]) -> Study {
-    put(b"at once");
-    let two = office(office(fresh, 16, table), 8, table);
-    let study = office(office(office(two, 12, table), 0, table), 4, table);
-    put(b"\n");
-    study
+fn at_once(rt: &impl Print, fresh: Study, table: &[u32; 1916]) -> io::Result<Study> {
+    put(rt, b"at once")?;
+    let two = office(rt, office(rt, fresh, 16, table)?, 8, table)?;
+    let study = office(
+        rt,
+        office(rt, office(rt, two, 12, table)?, 0, table)?,
+        4,
+        table,
+    )?;
+    put(rt, b"\n")?;
+    Ok(study)
 }
 
 // The offices from 2009 to 2017, pooled in every way, and one pool's numbers.
-fn pools(table: &[u32; 1916]) -> [u64; 83] {
-    let all = five_offices(20090101, 20171231, table);
+fn pools(rt: &impl Print, table: &[u32; 1916]) -> io::Result<[u64; 83]> {
+    let all = five_offices(rt, 20090101, 20171231, table)?;
     let fresh = opened(20090101, 20171231);
-    let list = figures(pairs(all));
-    let one = figures(forward(all));
-    let two = figures(backward(all));
-    let three = figures(with_fresh(all, fresh));
-    let four = figures(at_once(fresh, table));
-    put_study(&list);
-    put(b"equal");
-    put_same(&list, &one);
-    put_same(&list, &two);
-    put_same(&list, &three);
-    put_same(&list, &four);
-    put(b"\n");
-    list
+    let list = figures(pairs(rt, all)?);
+    let one = figures(forward(rt, all)?);
+    let two = figures(backward(rt, all)?);
+    let three = figures(with_fresh(rt, all, fresh)?);
+    let four = figures(at_once(rt, fresh, table)?);
+    put_study(rt, &list)?;
+    put(rt, b"equal")?;
+    put_same(rt, &list, &one)?;
+    put_same(rt, &list, &two)?;
+    put_same(rt, &list, &three)?;
+    put_same(rt, &list, &four)?;
+    put(rt, b"\n")?;
+    Ok(list)
 }
 
 // Three parts of the same years, each pooled in a way of its own.
-fn parts(whole: &[u64; 83], table: &[u32; 1916]) {
-    let one = pairs(five_offices(20090101, 20110215, table));
-    let two = backward(five_offices(20110216, 20131231, table));
+fn parts(rt: &impl Print, whole: &[u64; 83], table: &[u32; 1916]) -> io::Result<()> {
+    let one = pairs(rt, five_offices(rt, 20090101, 20110215, table)?)?;
+    let two = backward(rt, five_offices(rt, 20110216, 20131231, table)?)?;
     let three = with_fresh(
-        five_offices(20140101, 20171231, table),
+        rt,
+        five_offices(rt, 20140101, 20171231, table)?,
         opened(20140101, 20171231),
-    );
+    )?;
     let total = with_study(with_study(figures(one), two), three);
-    put_study(&total);
-    put(b"parts total");
-    put_yes(same_sums(&total, whole));
-    put(b"\n");
+    put_study(rt, &total)?;
+    put(rt, b"parts total")?;
+    put_yes(rt, same_sums(&total, whole))?;
+    put(rt, b"\n")
 }

@@ -1,155 +1,172 @@
 // Prints what the rate table's checks, look-ups and groups answer at their edges, and what preparing makes of a table.
+#![tactic(auto)]
+
 ghost use Rattle.std.specs.Prelude.{◌<◌};
 
 mod preparing;
 
 use basics::Duration;
 use rates::Cell;
+use std::io;
 use test_support::lists::counting;
 use test_support::print::{put, put_next};
 
 // A table's length, and its check with cell 0, 1, 63, 64, 255, 256, 1,023, 1,024 and 2^32 - 1.
-fn put_checks(table: &[u32]) {
-    put(b"length");
-    put_next(table.len() as u64);
-    put(b" checks");
-    put_next(rates::check(table, Cell(0)) as u64);
-    put_next(rates::check(table, Cell(1)) as u64);
-    put_next(rates::check(table, Cell(63)) as u64);
-    put_next(rates::check(table, Cell(64)) as u64);
-    put_next(rates::check(table, Cell(255)) as u64);
-    put_next(rates::check(table, Cell(256)) as u64);
-    put_next(rates::check(table, Cell(1023)) as u64);
-    put_next(rates::check(table, Cell(1024)) as u64);
-    put_next(rates::check(table, Cell(4294967295)) as u64);
-    put(b"\n");
+fn put_checks(rt: &impl Print, table: &[u32]) -> io::Result<()> {
+    put(rt, b"length")?;
+    put_next(rt, table.len() as u64)?;
+    put(rt, b" checks")?;
+    put_next(rt, rates::check(table, Cell(0)) as u64)?;
+    put_next(rt, rates::check(table, Cell(1)) as u64)?;
+    put_next(rt, rates::check(table, Cell(63)) as u64)?;
+    put_next(rt, rates::check(table, Cell(64)) as u64)?;
+    put_next(rt, rates::check(table, Cell(255)) as u64)?;
+    put_next(rt, rates::check(table, Cell(256)) as u64)?;
+    put_next(rt, rates::check(table, Cell(1023)) as u64)?;
+    put_next(rt, rates::check(table, Cell(1024)) as u64)?;
+    put_next(rt, rates::check(table, Cell(4294967295)) as u64)?;
+    put(rt, b"\n")
 }
 
 // The checks of the first `count` numbers of a table.
-fn put_start(table: &[u32], count: usize) {
+fn put_start(rt: &impl Print, table: &[u32], count: usize) -> io::Result<()> {
     if count <= table.len() {
-        put_checks(&table[0..count]);
+        put_checks(rt, &table[0..count])?;
     }
+    Ok(())
 }
 
 // The checks of tables of no cell, 1 cell, 64, 65 and 257 cells, and of one number less or more than a cell.
-fn put_lengths(table: &[u32; 981951]) {
-    put_start(table, 0);
-    put_start(table, 957);
-    put_start(table, 958);
-    put_start(table, 959);
-    put_start(table, 61312);
-    put_start(table, 62270);
-    put_start(table, 246206);
+fn put_lengths(rt: &impl Print, table: &[u32; 981951]) -> io::Result<()> {
+    put_start(rt, table, 0)?;
+    put_start(rt, table, 957)?;
+    put_start(rt, table, 958)?;
+    put_start(rt, table, 959)?;
+    put_start(rt, table, 61312)?;
+    put_start(rt, table, 62270)?;
+    put_start(rt, table, 246206)
 }
 
 // The same where all rates are 0 but the recovery rate at a place and the death rate of the same cell and duration.
-fn put_tables(table: &mut [u32; 981951], place: usize, recovery: u32, death: u32)
+fn put_tables(
+    rt: &impl Print,
+    table: &mut [u32; 981951],
+    place: usize,
+    recovery: u32,
+    death: u32,
+) -> io::Result<()>
     requires { place < 981471 }
 {
-    put(b"place");
-    put_next(place as u64);
-    put_next(recovery as u64);
-    put_next(death as u64);
-    put(b"\n");
+    put(rt, b"place")?;
+    put_next(rt, place as u64)?;
+    put_next(rt, recovery as u64)?;
+    put_next(rt, death as u64)?;
+    put(rt, b"\n")?;
     table[place] = recovery;
     table[place + 479] = death;
-    put_lengths(table);
+    put_lengths(rt, table)?;
     table[place] = 0;
     table[place + 479] = 0;
+    Ok(())
 }
 
 // The checks of tables of 1,024 and 1,025 cells.
-fn put_most(table: &[u32; 981951]) {
-    put_start(table, 980992);
-    put_start(table, 981950);
+fn put_most(rt: &impl Print, table: &[u32; 981951]) -> io::Result<()> {
+    put_start(rt, table, 980992)?;
+    put_start(rt, table, 981950)
 }
 
 // The recovery and the death rate of a cell at a duration.
-fn put_rates(table: &[u32], cell: u32, duration: u32) {
-    put_next(rates::recovery(table, Cell(cell), Duration(duration)) as u64);
-    put_next(rates::death(table, Cell(cell), Duration(duration)) as u64);
+fn put_rates(rt: &impl Print, table: &[u32], cell: u32, duration: u32) -> io::Result<()> {
+    put_next(
+        rt,
+        rates::recovery(table, Cell(cell), Duration(duration)) as u64,
+    )?;
+    put_next(
+        rt,
+        rates::death(table, Cell(cell), Duration(duration)) as u64,
+    )
 }
 
-fn put_cell(table: &[u32], cell: u32) {
-    put(b"cell");
-    put_next(cell as u64);
-    put(b" rates");
-    put_rates(table, cell, 0);
-    put_rates(table, cell, 1);
-    put_rates(table, cell, 2);
-    put_rates(table, cell, 3);
-    put_rates(table, cell, 480);
-    put_rates(table, cell, 481);
-    put_rates(table, cell, 4294967295);
-    put(b"\n");
+fn put_cell(rt: &impl Print, table: &[u32], cell: u32) -> io::Result<()> {
+    put(rt, b"cell")?;
+    put_next(rt, cell as u64)?;
+    put(rt, b" rates")?;
+    put_rates(rt, table, cell, 0)?;
+    put_rates(rt, table, cell, 1)?;
+    put_rates(rt, table, cell, 2)?;
+    put_rates(rt, table, cell, 3)?;
+    put_rates(rt, table, cell, 480)?;
+    put_rates(rt, table, cell, 481)?;
+    put_rates(rt, table, cell, 4294967295)?;
+    put(rt, b"\n")
 }
 
-fn put_group(duration: u32) {
-    put_next(rates::group(Duration(duration)) as u64);
+fn put_group(rt: &impl Print, duration: u32) -> io::Result<()> {
+    put_next(rt, rates::group(Duration(duration)) as u64)
 }
 
 // The groups of the last duration before a cut and of the first after it.
-fn put_cut(last: u32, first: u32) {
-    put_group(last);
-    put_group(first);
+fn put_cut(rt: &impl Print, last: u32, first: u32) -> io::Result<()> {
+    put_group(rt, last)?;
+    put_group(rt, first)
 }
 
-fn put_groups() {
-    put(b"groups");
-    put_cut(0, 1);
-    put_cut(3, 4);
-    put_cut(24, 25);
-    put_cut(60, 61);
-    put_cut(120, 121);
-    put_group(4294967295);
-    put(b"\n");
+fn put_groups(rt: &impl Print) -> io::Result<()> {
+    put(rt, b"groups")?;
+    put_cut(rt, 0, 1)?;
+    put_cut(rt, 3, 4)?;
+    put_cut(rt, 24, 25)?;
+    put_cut(rt, 60, 61)?;
+    put_cut(rt, 120, 121)?;
+    put_group(rt, 4294967295)?;
+    put(rt, b"\n")
 }
 
 // The last durations of the groups on both sides of a cut.
-fn put_last(last: u32, first: u32) {
-    put_next(rates::group_last(Duration(last)).0 as u64);
-    put_next(rates::group_last(Duration(first)).0 as u64);
+fn put_last(rt: &impl Print, last: u32, first: u32) -> io::Result<()> {
+    put_next(rt, rates::group_last(Duration(last)).0 as u64)?;
+    put_next(rt, rates::group_last(Duration(first)).0 as u64)
 }
 
-fn put_lasts() {
-    put(b"lasts");
-    put_last(0, 1);
-    put_last(3, 4);
-    put_last(24, 25);
-    put_last(60, 61);
-    put_last(120, 121);
-    put_last(4294967295, 4294967295);
-    put(b"\n");
+fn put_lasts(rt: &impl Print) -> io::Result<()> {
+    put(rt, b"lasts")?;
+    put_last(rt, 0, 1)?;
+    put_last(rt, 3, 4)?;
+    put_last(rt, 24, 25)?;
+    put_last(rt, 60, 61)?;
+    put_last(rt, 120, 121)?;
+    put_last(rt, 4294967295, 4294967295)?;
+    put(rt, b"\n")
 }
 
 // The table is the only one of its size: two of them, 3.9 MB each, don't fit a stack of 8 MB.
-fn put_all_tables(table: &mut [u32; 981951]) {
+fn put_all_tables(rt: &impl Print, table: &mut [u32; 981951]) -> io::Result<()> {
     // Together 1,000,000: no table is refused for a rate.
-    put_tables(table, 0, 600000, 400000);
+    put_tables(rt, table, 0, 600000, 400000)?;
     // One more, only at duration 2 of cell 0; only at duration 480.
-    put_tables(table, 0, 600000, 400001);
-    put_tables(table, 478, 400001, 600000);
+    put_tables(rt, table, 0, 600000, 400001)?;
+    put_tables(rt, table, 478, 400001, 600000)?;
     // Only in cell 1, by a sum that would be 0 in 32 bits; only at duration 480 of cell 63.
-    put_tables(table, 958, 4294967295, 1);
-    put_tables(table, 60832, 0, 1000001);
+    put_tables(rt, table, 958, 4294967295, 1)?;
+    put_tables(rt, table, 60832, 0, 1000001)?;
     // Only in cell 256, whose low byte is cell 0's.
-    put_tables(table, 245248, 0, 1000001);
-    put_most(table);
-    preparing::put_most(table);
+    put_tables(rt, table, 245248, 0, 1000001)?;
+    put_most(rt, table)?;
+    preparing::put_most(rt, table)
 }
 
-fn main() {
-    put_all_tables(&mut [0u32; 981951]);
+fn main(rt: HostRuntime) -> io::Result<()> {
+    put_all_tables(&rt, &mut [0u32; 981951])?;
     let table = counting();
-    put_cell(&table, 0);
-    put_cell(&table, 1);
-    put_cell(&table, 2);
-    put_cell(&table, 255);
-    put_cell(&table, 256);
-    put_cell(&table, 4294967295);
-    put_groups();
-    put_lasts();
-    preparing::put_preparing();
-    preparing::put_falling();
+    put_cell(&rt, &table, 0)?;
+    put_cell(&rt, &table, 1)?;
+    put_cell(&rt, &table, 2)?;
+    put_cell(&rt, &table, 255)?;
+    put_cell(&rt, &table, 256)?;
+    put_cell(&rt, &table, 4294967295)?;
+    put_groups(&rt)?;
+    put_lasts(&rt)?;
+    preparing::put_preparing(&rt)?;
+    preparing::put_falling(&rt)
 }

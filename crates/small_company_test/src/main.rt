@@ -1,35 +1,38 @@
 // Asks the small company rule about lists of claims at the edges of its days, counts, limits and checks. Each line has the number refused, whether
 // the carrier is exempt, both counts, the group told and five T.
+#![tactic(auto)]
+
 use claim_file::record::write_record;
 use claim_months::Claim;
 use small_company::{CompanyAnswer, small_company};
+use std::io;
 use test_support::dates::date;
 use test_support::print::{put, put_next, put_number};
 
-fn main() {
-    days();
-    leap_days();
-    first_years();
-    closed_claims();
-    many_claims();
-    bad_dates();
-    bad_lists();
-    bad_claims();
+fn main(rt: HostRuntime) -> io::Result<()> {
+    days(&rt)?;
+    leap_days(&rt)?;
+    first_years(&rt)?;
+    closed_claims(&rt)?;
+    many_claims(&rt)?;
+    bad_dates(&rt)?;
+    bad_lists(&rt)?;
+    bad_claims(&rt)
 }
 
-fn put_answer(answer: CompanyAnswer) {
+fn put_answer(rt: &impl Print, answer: CompanyAnswer) -> io::Result<()> {
     let t = answer.t;
-    put_number(answer.refused as u64);
-    put_next(answer.exempt as u64);
-    put_next(answer.recent);
-    put_next(answer.earlier);
-    put_next(answer.group as u64);
-    put_next(t[0]);
-    put_next(t[1]);
-    put_next(t[2]);
-    put_next(t[3]);
-    put_next(t[4]);
-    put(b"\n");
+    put_number(rt, answer.refused as u64)?;
+    put_next(rt, answer.exempt as u64)?;
+    put_next(rt, answer.recent)?;
+    put_next(rt, answer.earlier)?;
+    put_next(rt, answer.group as u64)?;
+    put_next(rt, t[0])?;
+    put_next(rt, t[1])?;
+    put_next(rt, t[2])?;
+    put_next(rt, t[3])?;
+    put_next(rt, t[4])?;
+    put(rt, b"\n")
 }
 
 // An open claim. Its BCD is the calendar's last day, so that only the disability date counts.
@@ -66,74 +69,74 @@ fn three(first: Claim, second: Claim, third: Claim) -> [u8; 96] {
 }
 
 // The answer for a list. In groups 1 to 5 T is moved by nothing, a tenth of the old down, one more, a tenth up, and one more.
-fn ask(valued: u32, claims: &[u8]) {
+fn ask(rt: &impl Print, valued: u32, claims: &[u8]) -> io::Result<()> {
     let new_t = [1000000, 900000, 899999, 1100000, 1100001];
     let old_t = [1000000, 1000000, 1000000, 1000000, 1000000];
-    put_answer(small_company(date(valued), claims, new_t, old_t));
+    put_answer(rt, small_company(date(valued), claims, new_t, old_t))
 }
 
 // The answer for a list of one claim.
-fn ask_one(valued: u32, claim: Claim) {
+fn ask_one(rt: &impl Print, valued: u32, claim: Claim) -> io::Result<()> {
     let mut bytes = [0u8; 32];
     write_record(claim, 0, &mut bytes);
-    ask(valued, &bytes);
+    ask(rt, valued, &bytes)
 }
 
-fn ask_open(valued: u32, disabled: u32) {
-    ask_one(valued, open_claim(disabled));
+fn ask_open(rt: &impl Print, valued: u32, disabled: u32) -> io::Result<()> {
+    ask_one(rt, valued, open_claim(disabled))
 }
 
 // The day two years before is within, the day before it is not; nor is the day after the valuation date.
-fn days() {
-    ask(20200630, b"");
-    ask_open(20200630, 20180629);
-    ask_open(20200630, 20180630);
-    ask_open(20200630, 20180701);
-    ask_open(20200630, 20200630);
-    ask_open(20200630, 20200701);
-    ask_open(20991231, 20971230);
-    ask_open(20991231, 20971231);
-    ask_open(20200101, 20171231);
-    ask_open(20200101, 20180101);
+fn days(rt: &impl Print) -> io::Result<()> {
+    ask(rt, 20200630, b"")?;
+    ask_open(rt, 20200630, 20180629)?;
+    ask_open(rt, 20200630, 20180630)?;
+    ask_open(rt, 20200630, 20180701)?;
+    ask_open(rt, 20200630, 20200630)?;
+    ask_open(rt, 20200630, 20200701)?;
+    ask_open(rt, 20991231, 20971230)?;
+    ask_open(rt, 20991231, 20971231)?;
+    ask_open(rt, 20200101, 20171231)?;
+    ask_open(rt, 20200101, 20180101)
 }
 
 // Two years before 29 February is 28 February, and no other day is moved.
-fn leap_days() {
-    ask_open(20200229, 20180227);
-    ask_open(20200229, 20180228);
-    ask_open(20200229, 20180301);
-    ask_open(20200228, 20180227);
-    ask_open(20200228, 20180228);
-    ask_open(20220228, 20200227);
-    ask_open(20220228, 20200228);
-    ask_open(20220301, 20200229);
-    ask_open(20220301, 20200301);
-    ask_open(20200329, 20180328);
-    ask_open(20200329, 20180329);
-    ask_open(19520229, 19500227);
-    ask_open(19520229, 19500228);
+fn leap_days(rt: &impl Print) -> io::Result<()> {
+    ask_open(rt, 20200229, 20180227)?;
+    ask_open(rt, 20200229, 20180228)?;
+    ask_open(rt, 20200229, 20180301)?;
+    ask_open(rt, 20200228, 20180227)?;
+    ask_open(rt, 20200228, 20180228)?;
+    ask_open(rt, 20220228, 20200227)?;
+    ask_open(rt, 20220228, 20200228)?;
+    ask_open(rt, 20220301, 20200229)?;
+    ask_open(rt, 20220301, 20200301)?;
+    ask_open(rt, 20200329, 20180328)?;
+    ask_open(rt, 20200329, 20180329)?;
+    ask_open(rt, 19520229, 19500227)?;
+    ask_open(rt, 19520229, 19500228)
 }
 
 // Every day is within where the one two years before lies before 1950.
-fn first_years() {
-    ask_open(19500101, 19500101);
-    ask_open(19500101, 19500102);
-    ask_open(19511231, 19500101);
-    ask_open(19520101, 19500101);
-    ask_open(19520102, 19500101);
-    ask_open(19520102, 19500102);
+fn first_years(rt: &impl Print) -> io::Result<()> {
+    ask_open(rt, 19500101, 19500101)?;
+    ask_open(rt, 19500101, 19500102)?;
+    ask_open(rt, 19511231, 19500101)?;
+    ask_open(rt, 19520101, 19500101)?;
+    ask_open(rt, 19520102, 19500101)?;
+    ask_open(rt, 19520102, 19500102)
 }
 
 // Closed claims don't count, whatever closed them.
-fn closed_claims() {
-    ask_one(20200630, closed_claim(20190630, 1));
-    ask_one(20200630, closed_claim(20100630, 6));
+fn closed_claims(rt: &impl Print) -> io::Result<()> {
+    ask_one(rt, 20200630, closed_claim(20190630, 1))?;
+    ask_one(rt, 20200630, closed_claim(20100630, 6))?;
     let some = three(
         closed_claim(20190630, 2),
         open_claim(20190630),
         open_claim(20100630),
     );
-    ask(20200630, &some);
+    ask(rt, 20200630, &some)
 }
 
 // A claim within two years of 30 June 2020 for a place below 50, an earlier one for another.
@@ -151,87 +154,107 @@ fn fill(bytes: &mut [u8]) {
     }
 }
 
-fn many_claims() {
+fn many_claims(rt: &impl Print) -> io::Result<()> {
     let mut bytes = [0u8; 8000];
     fill(&mut bytes);
-    limits(bytes);
-    other_lists(bytes);
-    first_groups(&bytes[0..1600]);
-    differences(&bytes[0..1600]);
-    large_numbers(&bytes[0..1600]);
+    limits(rt, bytes)?;
+    other_lists(rt, bytes)?;
+    first_groups(rt, &bytes[0..1600])?;
+    differences(rt, &bytes[0..1600])?;
+    large_numbers(rt, &bytes[0..1600])
 }
 
 // 49 or 50 recent claims, 199 or 200 earlier ones, all of them open.
-fn limits(bytes: [u8; 8000]) {
-    ask(20200630, &bytes[32..7968]);
-    ask(20200630, &bytes[32..8000]);
-    ask(20200630, &bytes[0..7968]);
-    ask(20200630, &bytes[0..8000]);
+fn limits(rt: &impl Print, bytes: [u8; 8000]) -> io::Result<()> {
+    ask(rt, 20200630, &bytes[32..7968])?;
+    ask(rt, 20200630, &bytes[32..8000])?;
+    ask(rt, 20200630, &bytes[0..7968])?;
+    ask(rt, 20200630, &bytes[0..8000])
 }
 
 // Recent claims alone and earlier ones alone; all of them at a date by which all are earlier, and before all of them.
-fn other_lists(bytes: [u8; 8000]) {
-    ask(20200630, &bytes[0..1600]);
-    ask(20200630, &bytes[1600..8000]);
-    ask(20211231, &bytes[0..8000]);
-    ask(20091231, &bytes[0..8000]);
+fn other_lists(rt: &impl Print, bytes: [u8; 8000]) -> io::Result<()> {
+    ask(rt, 20200630, &bytes[0..1600])?;
+    ask(rt, 20200630, &bytes[1600..8000])?;
+    ask(rt, 20211231, &bytes[0..8000])?;
+    ask(rt, 20091231, &bytes[0..8000])
 }
 
 // The answer for some T.
-fn ask_t(claims: &[u8], new_t: [u64; 5], old_t: [u64; 5]) {
-    put_answer(small_company(date(20200630), claims, new_t, old_t));
+fn ask_t(rt: &impl Print, claims: &[u8], new_t: [u64; 5], old_t: [u64; 5]) -> io::Result<()> {
+    put_answer(rt, small_company(date(20200630), claims, new_t, old_t))
 }
 
 // The answer for one T, in group 5.
-fn ask_last(claims: &[u8], new: u64, old: u64) {
-    ask_t(claims, [5, 6, 7, 8, new], [5, 6, 7, 8, old]);
+fn ask_last(rt: &impl Print, claims: &[u8], new: u64, old: u64) -> io::Result<()> {
+    ask_t(rt, claims, [5, 6, 7, 8, new], [5, 6, 7, 8, old])
 }
 
 // The first group that moved far is told, and 0 for none. From here on the carrier has 50 recent claims, and is not exempt.
-fn first_groups(claims: &[u8]) {
+fn first_groups(rt: &impl Print, claims: &[u8]) -> io::Result<()> {
     let old_t = [1000000, 1000000, 1000000, 1000000, 1000000];
-    ask_t(claims, [1000000, 1000000, 1000000, 1000000, 1000000], old_t);
-    ask_t(claims, [1100001, 1000000, 899999, 1000000, 1000000], old_t);
-    ask_t(claims, [1100000, 1100001, 1000000, 1000000, 1100001], old_t);
-    ask_t(claims, [900000, 1100000, 899999, 1100001, 1000000], old_t);
-    ask_t(claims, [900000, 1100000, 1000000, 899999, 0], old_t);
-    ask_t(claims, [900000, 1100000, 1000000, 1000000, 0], old_t);
+    ask_t(
+        rt,
+        claims,
+        [1000000, 1000000, 1000000, 1000000, 1000000],
+        old_t,
+    )?;
+    ask_t(
+        rt,
+        claims,
+        [1100001, 1000000, 899999, 1000000, 1000000],
+        old_t,
+    )?;
+    ask_t(
+        rt,
+        claims,
+        [1100000, 1100001, 1000000, 1000000, 1100001],
+        old_t,
+    )?;
+    ask_t(
+        rt,
+        claims,
+        [900000, 1100000, 899999, 1100001, 1000000],
+        old_t,
+    )?;
+    ask_t(rt, claims, [900000, 1100000, 1000000, 899999, 0], old_t)?;
+    ask_t(rt, claims, [900000, 1100000, 1000000, 1000000, 0], old_t)
 }
 
 // Ten times the difference is the old one, or differs from it by less than ten.
-fn differences(claims: &[u8]) {
-    ask_last(claims, 990230, 1100256);
-    ask_last(claims, 990230, 1100255);
-    ask_last(claims, 20, 19);
-    ask_last(claims, 21, 19);
-    ask_last(claims, 11, 10);
-    ask_last(claims, 10, 9);
-    ask_last(claims, 9, 9);
-    ask_last(claims, 0, 0);
-    ask_last(claims, 1, 0);
-    ask_last(claims, 0, 1);
+fn differences(rt: &impl Print, claims: &[u8]) -> io::Result<()> {
+    ask_last(rt, claims, 990230, 1100256)?;
+    ask_last(rt, claims, 990230, 1100255)?;
+    ask_last(rt, claims, 20, 19)?;
+    ask_last(rt, claims, 21, 19)?;
+    ask_last(rt, claims, 11, 10)?;
+    ask_last(rt, claims, 10, 9)?;
+    ask_last(rt, claims, 9, 9)?;
+    ask_last(rt, claims, 0, 0)?;
+    ask_last(rt, claims, 1, 0)?;
+    ask_last(rt, claims, 0, 1)
 }
 
 // T of up to 2^64 - 1, at which ten times a difference needs more bits.
-fn large_numbers(claims: &[u8]) {
-    ask_last(claims, 18446744073709551615, 18446744073709551615);
-    ask_last(claims, 18446744073709551615, 0);
-    ask_last(claims, 0, 18446744073709551615);
-    ask_last(claims, 16602069666338596454, 18446744073709551615);
-    ask_last(claims, 16602069666338596453, 18446744073709551615);
-    ask_last(claims, 18446744073709551615, 16769767339735956014);
-    ask_last(claims, 18446744073709551615, 16769767339735956013);
-    ask_last(claims, 3689348814741910324, 1844674407370955162);
-    ask_last(claims, 2000000000000000000, 1844674407370955162);
+fn large_numbers(rt: &impl Print, claims: &[u8]) -> io::Result<()> {
+    ask_last(rt, claims, 18446744073709551615, 18446744073709551615)?;
+    ask_last(rt, claims, 18446744073709551615, 0)?;
+    ask_last(rt, claims, 0, 18446744073709551615)?;
+    ask_last(rt, claims, 16602069666338596454, 18446744073709551615)?;
+    ask_last(rt, claims, 16602069666338596453, 18446744073709551615)?;
+    ask_last(rt, claims, 18446744073709551615, 16769767339735956014)?;
+    ask_last(rt, claims, 18446744073709551615, 16769767339735956013)?;
+    ask_last(rt, claims, 3689348814741910324, 1844674407370955162)?;
+    ask_last(rt, claims, 2000000000000000000, 1844674407370955162)
 }
 
 // A bad valuation date comes before a bad list and a bad claim.
-fn bad_dates() {
-    ask(20210229, b"");
-    ask(19491231, b"");
-    ask(21000101, b"");
-    ask(20200631, &[255u8; 33]);
-    ask_one(0, closed_claim(20190630, 0));
+fn bad_dates(rt: &impl Print) -> io::Result<()> {
+    ask(rt, 20210229, b"")?;
+    ask(rt, 19491231, b"")?;
+    ask(rt, 21000101, b"")?;
+    ask(rt, 20200631, &[255u8; 33])?;
+    ask_one(rt, 0, closed_claim(20190630, 0))
 }
 
 fn store(at: usize, byte: u8, bytes: &mut [u8]) {
@@ -241,31 +264,31 @@ fn store(at: usize, byte: u8, bytes: &mut [u8]) {
 }
 
 // A list of a claim and two sound ones, with one byte changed.
-fn ask_changed(at: usize, byte: u8, first: Claim) {
+fn ask_changed(rt: &impl Print, at: usize, byte: u8, first: Claim) -> io::Result<()> {
     let mut bytes = three(first, open_claim(20190630), open_claim(20100630));
     store(at, byte, &mut bytes);
-    ask(20200630, &bytes);
+    ask(rt, 20200630, &bytes)
 }
 
 // A part record, and a wrong zero byte anywhere, come before every claim's number.
-fn bad_lists() {
+fn bad_lists(rt: &impl Print) -> io::Result<()> {
     let sound = open_claim(20190630);
     let bytes = three(sound, closed_claim(20190630, 7), sound);
-    ask(20200630, &bytes[0..1]);
-    ask(20200630, &bytes[0..31]);
-    ask(20200630, &bytes[0..33]);
-    ask(20200630, &bytes[0..95]);
-    ask_changed(0, 255, sound);
-    ask_changed(88, 0, sound);
-    ask_changed(89, 1, sound);
-    ask_changed(95, 128, sound);
-    ask_changed(25, 1, sound);
-    ask_changed(95, 1, closed_claim(20190630, 7));
-    ask_changed(57, 1, closed_claim(20210229, 1));
+    ask(rt, 20200630, &bytes[0..1])?;
+    ask(rt, 20200630, &bytes[0..31])?;
+    ask(rt, 20200630, &bytes[0..33])?;
+    ask(rt, 20200630, &bytes[0..95])?;
+    ask_changed(rt, 0, 255, sound)?;
+    ask_changed(rt, 88, 0, sound)?;
+    ask_changed(rt, 89, 1, sound)?;
+    ask_changed(rt, 95, 128, sound)?;
+    ask_changed(rt, 25, 1, sound)?;
+    ask_changed(rt, 95, 1, closed_claim(20190630, 7))?;
+    ask_changed(rt, 57, 1, closed_claim(20210229, 1))
 }
 
 // The first claim that fails answers, closed or open, by its own first check.
-fn bad_claims() {
+fn bad_claims(rt: &impl Print) -> io::Result<()> {
     let sound = open_claim(20190630);
     let no_date = open_claim(20190229);
     let no_code = closed_claim(20190630, 0);
@@ -274,13 +297,13 @@ fn bad_claims() {
     let mut rich = open_claim(20190630);
     rich.benefit = 201;
     let short = open_claim(20991217);
-    ask_one(20200630, no_date);
-    ask_one(20200630, no_code);
-    ask_one(20200630, late);
-    ask_one(20200630, rich);
-    ask_one(20200630, short);
-    ask(20200630, &three(sound, short, no_date));
-    ask(20200630, &three(sound, rich, short));
-    ask(20200630, &three(late, no_code, no_date));
-    ask(20200630, &three(sound, sound, no_code));
+    ask_one(rt, 20200630, no_date)?;
+    ask_one(rt, 20200630, no_code)?;
+    ask_one(rt, 20200630, late)?;
+    ask_one(rt, 20200630, rich)?;
+    ask_one(rt, 20200630, short)?;
+    ask(rt, 20200630, &three(sound, short, no_date))?;
+    ask(rt, 20200630, &three(sound, rich, short))?;
+    ask(rt, 20200630, &three(late, no_code, no_date))?;
+    ask(rt, 20200630, &three(sound, sound, no_code))
 }

@@ -5,6 +5,7 @@ use crate::claims::claim;
 use crate::figures::put_answer;
 use calendar::Day;
 use claim_months::Window;
+use std::io;
 use study::Study;
 use test_support::dates::date;
 use test_support::numbers::bits;
@@ -29,36 +30,36 @@ const EXPECTED: [i64; 6] = [
     -9223372036854775808,
 ];
 
-pub(crate) fn edges(table: &[u32; 1916]) {
-    openings();
-    windows(table);
-    counts(table);
-    sums(table);
-    orders(table);
+pub(crate) fn edges(rt: &impl Print, table: &[u32; 1916]) -> io::Result<()> {
+    openings(rt)?;
+    windows(rt, table)?;
+    counts(rt, table)?;
+    sums(rt, table)?;
+    orders(rt, table)
 }
 
-fn openings() {
-    opening(20090101, 20081231);
-    opening(20090101, 20090229);
-    opening(0, 20091231);
-    opening(19491231, 20091231);
-    opening(20090101, 21000101);
+fn openings(rt: &impl Print) -> io::Result<()> {
+    opening(rt, 20090101, 20081231)?;
+    opening(rt, 20090101, 20090229)?;
+    opening(rt, 0, 20091231)?;
+    opening(rt, 19491231, 20091231)?;
+    opening(rt, 20090101, 21000101)
 }
 
-fn opening(first: u32, last: u32) {
-    put(b"open");
-    put_next(first as u64);
-    put_next(last as u64);
+fn opening(rt: &impl Print, first: u32, last: u32) -> io::Result<()> {
+    put(rt, b"open")?;
+    put_next(rt, first as u64)?;
+    put_next(rt, last as u64)?;
     let opened = Study::open(date(first), date(last));
     let study = opened.study;
-    put(b" refused");
-    put_next(opened.refused as u64);
-    put(b" window");
-    put_next(study.window.first.0 as u64);
-    put_next(study.window.last.0 as u64);
-    put(b" taken");
-    put_next(study.taken as u64);
-    put(b"\n");
+    put(rt, b" refused")?;
+    put_next(rt, opened.refused as u64)?;
+    put(rt, b" window")?;
+    put_next(rt, study.window.first.0 as u64)?;
+    put_next(rt, study.window.last.0 as u64)?;
+    put(rt, b" taken")?;
+    put_next(rt, study.taken as u64)?;
+    put(rt, b"\n")
 }
 
 // The sums of a group from a place on: thirtieths, five counts, expected recoveries and deaths.
@@ -120,82 +121,83 @@ pub(crate) fn full() -> Study {
 }
 
 // Adds a claim, and prints the answer and whether the study came back as it was.
-fn show(before: Study, place: u32, table: &[u32]) {
-    put_answer(before, before.add(claim(place), table));
+fn show(rt: &impl Print, before: Study, place: u32, table: &[u32]) -> io::Result<()> {
+    put_answer(rt, before, before.add(claim(place), table))
 }
 
-fn windows(table: &[u32; 1916]) {
-    window(100, 99, table);
-    window(0, 54787, table);
-    window(4294967295, 4294967295, table);
-    window(54786, 54786, table);
-    window(0, 54786, table);
+fn windows(rt: &impl Print, table: &[u32; 1916]) -> io::Result<()> {
+    window(rt, 100, 99, table)?;
+    window(rt, 0, 54787, table)?;
+    window(rt, 4294967295, 4294967295, table)?;
+    window(rt, 54786, 54786, table)?;
+    window(rt, 0, 54786, table)
 }
 
-fn window(first: u32, last: u32, table: &[u32; 1916]) {
-    put(b"window");
-    put_next(first as u64);
-    put_next(last as u64);
-    show(made(first, last, 7), 1, table);
+fn window(rt: &impl Print, first: u32, last: u32, table: &[u32; 1916]) -> io::Result<()> {
+    put(rt, b"window")?;
+    put_next(rt, first as u64)?;
+    put_next(rt, last as u64)?;
+    show(rt, made(first, last, 7), 1, table)
 }
 
-fn counts(table: &[u32; 1916]) {
-    taken(499999, table);
-    taken(500000, table);
-    taken(4294967295, table);
-    closing(0, 500000, table);
-    closing(24, 500001, table);
-    closing(12, 4000000000, table);
-    closing(7, -1, table);
+fn counts(rt: &impl Print, table: &[u32; 1916]) -> io::Result<()> {
+    taken(rt, 499999, table)?;
+    taken(rt, 500000, table)?;
+    taken(rt, 4294967295, table)?;
+    closing(rt, 0, 500000, table)?;
+    closing(rt, 24, 500001, table)?;
+    closing(rt, 12, 4000000000, table)?;
+    closing(rt, 7, -1, table)
 }
 
-fn taken(count: u32, table: &[u32; 1916]) {
-    put(b"taken");
-    put_next(count as u64);
-    show(made(21550, 24836, count), 1, table);
+fn taken(rt: &impl Print, count: u32, table: &[u32; 1916]) -> io::Result<()> {
+    put(rt, b"taken")?;
+    put_next(rt, count as u64)?;
+    show(rt, made(21550, 24836, count), 1, table)
 }
 
 // The count at a place of the 25 in order.
-fn closing(place: usize, count: i64, table: &[u32; 1916])
+fn closing(rt: &impl Print, place: usize, count: i64, table: &[u32; 1916]) -> io::Result<()>
     requires { place < 25 }
 {
-    put(b"closings");
-    put_next(place as u64);
-    put_next_signed(bits(count));
+    put(rt, b"closings")?;
+    put_next(rt, place as u64)?;
+    put_next_signed(rt, bits(count))?;
     show(
+        rt,
         with_number(8 * (place / 5) + place % 5 + 1, count),
         1,
         table,
-    );
+    )
 }
 
-fn sums(table: &[u32; 1916]) {
-    about(0, THIRTIETHS, table);
-    about(1, EXPECTED, table);
-    about(2, EXPECTED, table);
+fn sums(rt: &impl Print, table: &[u32; 1916]) -> io::Result<()> {
+    about(rt, 0, THIRTIETHS, table)?;
+    about(rt, 1, EXPECTED, table)?;
+    about(rt, 2, EXPECTED, table)
 }
 
 // Each sum at a place of one field of a study: thirtieths at 0, expected recoveries at 1, expected deaths at 2.
-fn about(field: u8, sums: [i64; 6], table: &[u32; 1916]) {
-    sum(field, 0, sums[0], table);
-    sum(field, 4, sums[1], table);
-    sum(field, 2, sums[2], table);
-    sum(field, 3, sums[3], table);
-    sum(field, 1, sums[4], table);
-    sum(field, 0, sums[5], table);
+fn about(rt: &impl Print, field: u8, sums: [i64; 6], table: &[u32; 1916]) -> io::Result<()> {
+    sum(rt, field, 0, sums[0], table)?;
+    sum(rt, field, 4, sums[1], table)?;
+    sum(rt, field, 2, sums[2], table)?;
+    sum(rt, field, 3, sums[3], table)?;
+    sum(rt, field, 1, sums[4], table)?;
+    sum(rt, field, 0, sums[5], table)
 }
 
-fn sum(field: u8, place: usize, sum: i64, table: &[u32; 1916])
+fn sum(rt: &impl Print, field: u8, place: usize, sum: i64, table: &[u32; 1916]) -> io::Result<()>
     requires { place < 5 }
 {
     match field {
-        0 => put(b"thirtieths"),
-        1 => put(b"recoveries"),
-        _ => put(b"deaths"),
+        0 => put(rt, b"thirtieths")?,
+        1 => put(rt, b"recoveries")?,
+        _ => put(rt, b"deaths")?,
     }
-    put_next(place as u64);
-    put_next_signed(bits(sum));
-    show(with_sum(field, place, sum), 1, table);
+    put_next(rt, place as u64)?;
+    put_next_signed(rt, bits(sum))?;
+    show(rt, with_sum(field, place, sum), 1, table)
 }
 
 // A study with a number at one place of its sums.
@@ -221,30 +223,37 @@ pub(crate) fn with_sum(field: u8, place: usize, sum: i64) -> Study
 }
 
 // The same with the first rates of the table only.
-fn show_start(before: Study, place: u32, table: &[u32], count: usize) {
+fn show_start(
+    rt: &impl Print,
+    before: Study,
+    place: u32,
+    table: &[u32],
+    count: usize,
+) -> io::Result<()> {
     if count <= table.len() {
-        show(before, place, &table[0..count]);
+        show(rt, before, place, &table[0..count])?;
     }
+    Ok(())
 }
 
 // Where two checks fail, the first one's number is the answer.
-fn orders(table: &[u32; 1916]) {
-    put(b"window and date");
-    show(made(100, 99, 7), 15, table);
-    put(b"status and full");
-    show(full(), 16, table);
-    put(b"cell and full");
-    show(full(), 19, table);
-    put(b"rate and full");
-    show(full(), 20, table);
-    put(b"no rates");
-    show_start(given(), 1, table, 0);
-    put(b"no rates and date");
-    show_start(given(), 15, table, 0);
-    put(b"one rate less");
-    show_start(given(), 1, table, 1915);
-    put(b"one cell");
-    show_start(given(), 20, table, 958);
-    put(b"cell 256");
-    show(given(), 24, table);
+fn orders(rt: &impl Print, table: &[u32; 1916]) -> io::Result<()> {
+    put(rt, b"window and date")?;
+    show(rt, made(100, 99, 7), 15, table)?;
+    put(rt, b"status and full")?;
+    show(rt, full(), 16, table)?;
+    put(rt, b"cell and full")?;
+    show(rt, full(), 19, table)?;
+    put(rt, b"rate and full")?;
+    show(rt, full(), 20, table)?;
+    put(rt, b"no rates")?;
+    show_start(rt, given(), 1, table, 0)?;
+    put(rt, b"no rates and date")?;
+    show_start(rt, given(), 15, table, 0)?;
+    put(rt, b"one rate less")?;
+    show_start(rt, given(), 1, table, 1915)?;
+    put(rt, b"one cell")?;
+    show_start(rt, given(), 20, table, 958)?;
+    put(rt, b"cell 256")?;
+    show(rt, given(), 24, table)
 }

@@ -1,6 +1,7 @@
 // The sums of one set of a study as a list of 64-bit numbers, a negative one as 2^64 more: eight for each group, the groups in order.
 ghost use Rattle.std.specs.Prelude.{◌<◌, ◌≤◌};
 
+use std::io;
 use std::num::wrapping_add_u64;
 use study::{Answer, Study};
 use test_support::lists::same;
@@ -56,42 +57,43 @@ pub(crate) fn same_study(a: Study, b: Study) -> bool {
 }
 
 // A group's line: its number and its figures in order.
-fn put_group(figures: &[u64; 40], k: usize)
+fn put_group(rt: &impl Print, figures: &[u64; 40], k: usize) -> io::Result<()>
     requires { k < 5 }
 {
-    put_number(k as u64 + 1);
-    put_next_signed(figures[8 * k]);
-    put_next_signed(figures[8 * k + 1]);
-    put_next_signed(figures[8 * k + 2]);
-    put_next_signed(figures[8 * k + 3]);
-    put_next_signed(figures[8 * k + 4]);
-    put_next_signed(figures[8 * k + 5]);
-    put_next_signed(figures[8 * k + 6]);
-    put_next_signed(figures[8 * k + 7]);
-    put(b"\n");
+    put_number(rt, k as u64 + 1)?;
+    put_next_signed(rt, figures[8 * k])?;
+    put_next_signed(rt, figures[8 * k + 1])?;
+    put_next_signed(rt, figures[8 * k + 2])?;
+    put_next_signed(rt, figures[8 * k + 3])?;
+    put_next_signed(rt, figures[8 * k + 4])?;
+    put_next_signed(rt, figures[8 * k + 5])?;
+    put_next_signed(rt, figures[8 * k + 6])?;
+    put_next_signed(rt, figures[8 * k + 7])?;
+    put(rt, b"\n")
 }
 
-pub(crate) fn put_groups(figures: &[u64; 40]) {
-    put_group(figures, 0);
-    put_group(figures, 1);
-    put_group(figures, 2);
-    put_group(figures, 3);
-    put_group(figures, 4);
+pub(crate) fn put_groups(rt: &impl Print, figures: &[u64; 40]) -> io::Result<()> {
+    put_group(rt, figures, 0)?;
+    put_group(rt, figures, 1)?;
+    put_group(rt, figures, 2)?;
+    put_group(rt, figures, 3)?;
+    put_group(rt, figures, 4)
 }
 
 // What an addition or a withdrawal answers: the number refused, whether the study came back as it was, and its sums by count unless it was refused.
-pub(crate) fn put_answer(before: Study, answer: Answer) {
+pub(crate) fn put_answer(rt: &impl Print, before: Study, answer: Answer) -> io::Result<()> {
     let after = answer.study;
-    put(b" refused");
-    put_next(answer.refused as u64);
+    put(rt, b" refused")?;
+    put_next(rt, answer.refused as u64)?;
     if same_study(before, after) {
-        put(b" unchanged taken");
+        put(rt, b" unchanged taken")?;
     } else {
-        put(b" changed taken");
+        put(rt, b" changed taken")?;
     }
-    put_next(after.taken as u64);
-    put(b"\n");
+    put_next(rt, after.taken as u64)?;
+    put(rt, b"\n")?;
     if answer.refused == 0 {
-        put_groups(&figures(after));
+        put_groups(rt, &figures(after))?;
     }
+    Ok(())
 }

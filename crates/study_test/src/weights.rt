@@ -4,6 +4,7 @@ use crate::edges::{with_number, with_sum};
 use crate::figures::{figures, put_groups, same_study, weighted_figures, with_weighted};
 use crate::{opened, put_yes};
 use claim_months::Claim;
+use std::io;
 use study::Study;
 use test_support::lists::same;
 use test_support::numbers::bits;
@@ -19,18 +20,18 @@ const EXPECTED: [i64; 4] = [
     -5400000000000000001,
 ];
 
-pub(crate) fn weights(table: &[u32; 1916]) {
-    alone(0, table);
-    alone(1, table);
-    alone(2, table);
-    alone(200, table);
-    alone(201, table);
-    alone(255, table);
-    parts(table);
-    bounds(table);
-    closing(100000000, table);
-    closing(100000001, table);
-    closing(-1, table);
+pub(crate) fn weights(rt: &impl Print, table: &[u32; 1916]) -> io::Result<()> {
+    alone(rt, 0, table)?;
+    alone(rt, 1, table)?;
+    alone(rt, 2, table)?;
+    alone(rt, 200, table)?;
+    alone(rt, 201, table)?;
+    alone(rt, 255, table)?;
+    parts(rt, table)?;
+    bounds(rt, table)?;
+    closing(rt, 100000000, table)?;
+    closing(rt, 100000001, table)?;
+    closing(rt, -1, table)
 }
 
 // A claim of the list with a benefit.
@@ -41,18 +42,19 @@ pub(crate) fn weighing(place: u32, benefit: u8) -> Claim {
 }
 
 // The second claim alone, and its figures in both sets.
-fn alone(benefit: u8, table: &[u32; 1916]) {
-    put(b"benefit");
-    put_next(benefit as u64);
+fn alone(rt: &impl Print, benefit: u8, table: &[u32; 1916]) -> io::Result<()> {
+    put(rt, b"benefit")?;
+    put_next(rt, benefit as u64)?;
     let answer = opened(20090101, 20171231).add(weighing(1, benefit), table);
-    put(b" refused");
-    put_next(answer.refused as u64);
-    put(b"\n");
+    put(rt, b" refused")?;
+    put_next(rt, answer.refused as u64)?;
+    put(rt, b"\n")?;
     let study = answer.study;
     if answer.refused == 0 {
-        put_groups(&figures(study));
-        put_groups(&weighted_figures(study));
+        put_groups(rt, &figures(study))?;
+        put_groups(rt, &weighted_figures(study))?;
     }
+    Ok(())
 }
 
 pub(crate) fn with_claim(study: Study, place: u32, benefit: u8, table: &[u32; 1916]) -> Study {
@@ -68,56 +70,57 @@ fn weighed(first: u32, last: u32, table: &[u32; 1916]) -> Study {
 }
 
 // Their weighted sums in a window and its two parts.
-fn parts(table: &[u32; 1916]) {
+fn parts(rt: &impl Print, table: &[u32; 1916]) -> io::Result<()> {
     let whole = weighed(20090101, 20171231, table);
     let a = weighed(20090101, 20110215, table);
     let b = weighed(20110216, 20171231, table);
-    put(b"weighted\n");
-    put_groups(&weighted_figures(whole));
-    put(b"weighted parts equal");
+    put(rt, b"weighted\n")?;
+    put_groups(rt, &weighted_figures(whole))?;
+    put(rt, b"weighted parts equal")?;
     let total = with_weighted(weighted_figures(a), b);
-    put_yes(same(&total, &weighted_figures(whole)));
-    put(b"\n");
+    put_yes(rt, same(&total, &weighted_figures(whole)))?;
+    put(rt, b"\n")
 }
 
 // Adds the second claim with a benefit of 200, and prints the answer and whether the study came back as it was.
-fn show(before: Study, table: &[u32; 1916]) {
+fn show(rt: &impl Print, before: Study, table: &[u32; 1916]) -> io::Result<()> {
     let answer = before.add(weighing(1, 200), table);
-    put(b" refused");
-    put_next(answer.refused as u64);
+    put(rt, b" refused")?;
+    put_next(rt, answer.refused as u64)?;
     let after = answer.study;
     if same_study(before, after) {
-        put(b" unchanged\n");
+        put(rt, b" unchanged\n")?;
     } else {
-        put(b" changed\n");
-        put_groups(&weighted_figures(after));
+        put(rt, b" changed\n")?;
+        put_groups(rt, &weighted_figures(after))?;
     }
+    Ok(())
 }
 
-fn bounds(table: &[u32; 1916]) {
-    about(0, THIRTIETHS, table);
-    about(1, EXPECTED, table);
-    about(2, EXPECTED, table);
+fn bounds(rt: &impl Print, table: &[u32; 1916]) -> io::Result<()> {
+    about(rt, 0, THIRTIETHS, table)?;
+    about(rt, 1, EXPECTED, table)?;
+    about(rt, 2, EXPECTED, table)
 }
 
-fn about(field: u8, sums: [i64; 4], table: &[u32; 1916]) {
-    bound(field, sums[0], table);
-    bound(field, sums[1], table);
-    bound(field, sums[2], table);
-    bound(field, sums[3], table);
+fn about(rt: &impl Print, field: u8, sums: [i64; 4], table: &[u32; 1916]) -> io::Result<()> {
+    bound(rt, field, sums[0], table)?;
+    bound(rt, field, sums[1], table)?;
+    bound(rt, field, sums[2], table)?;
+    bound(rt, field, sums[3], table)
 }
 
 // A weighted sum of group 3 at a bound: thirtieths at field 0, expected recoveries at 1, expected deaths at 2.
-fn bound(field: u8, sum: i64, table: &[u32; 1916]) {
-    put(b"weighted bound");
-    put_next(field as u64);
-    put_next_signed(bits(sum));
-    show(with_sum(field, 7, sum), table);
+fn bound(rt: &impl Print, field: u8, sum: i64, table: &[u32; 1916]) -> io::Result<()> {
+    put(rt, b"weighted bound")?;
+    put_next(rt, field as u64)?;
+    put_next_signed(rt, bits(sum))?;
+    show(rt, with_sum(field, 7, sum), table)
 }
 
 // The weighted closing sum of group 3 under recovery.
-fn closing(sum: i64, table: &[u32; 1916]) {
-    put(b"weighted closings");
-    put_next_signed(bits(sum));
-    show(with_number(57, sum), table);
+fn closing(rt: &impl Print, sum: i64, table: &[u32; 1916]) -> io::Result<()> {
+    put(rt, b"weighted closings")?;
+    put_next_signed(rt, bits(sum))?;
+    show(rt, with_number(57, sum), table)
 }
