@@ -1,14 +1,16 @@
 """How much do the contracts rule out? Wrong versions of the crates, each judged by the prover.
 
-THE FAST WAY. `rt check` proves what the crates depend on. A copy of a crate is checked by `rattle check` with rt's own words, over an incremental folder,
-which keeps each checked module of the prover. A wrong version is written to such a copy, and checked over a copy (hard links) of that folder. A module is
-taken from there only where its text and all that it rests on are what was checked: so the changed function is lowered and proved anew against its own
-contract; the functions that it calls, and those that have nothing to do with it, are taken as they were. Its callers are only put together again: they see
-nothing of it but its contract.
+THE FAST WAY. rt proves the crate and what it depends on (prover.py), and keeps what it proved. A copy of the crate is checked by `rattle check` with rt's own
+words, over a copy (hard links) of that, the incremental folder, which has each checked module of the prover. A module is taken from there only where its text
+and all that it rests on are what was checked: so the changed function is lowered and proved anew against its own contract; the functions that it calls, and
+those that have nothing to do with it, are taken as they were. Its callers are only put together again: they see nothing of it but its contract.
 
 WRONG VERSIONS TOGETHER. So several functions can be wrong in one run, and each is judged by the errors in its own proof. Functions of one run never reach
 one another by calls, so that no proof waits for another one's theorem. Whatever has no error of its own in such a run is tried again alone, before it
 counts as proved. A change in specs/, in two files, or outside of a body is always tried alone.
+
+NAMES. A proof cites goals and steps by names that the prover makes of the code, as `if-x-gt10` of `if x > 10`. Where a wrong version has another condition,
+and so another name, its proof files are read with the new name in the old one's place (names.py), and it is judged by what the prover then says.
 
 MADE-UP ERRORS. The bodies of a crate's functions are also changed at random: an operator, a number, a name, two arguments, a condition, a statement left out
 (made_up.py). Which ones a sample has is said by the seed and each one's own text: a change of one function leaves the sample's others as they are. One that
@@ -17,9 +19,9 @@ reason why it computes the same; an entry there for which no error is made up an
 
 VERDICTS, for each wrong version:
     numbers   refused by a fact: the prover prints numbers at which what is asked is false
-    goal      refused by a fact: what is asked at a place isn't what the proof shows there, or no proof is found of a function that has no proof file. A
-              version that computes the same in another form can be refused so, too
-    misfit    refused, but the proof's text no longer fits the code's shape (a place, a field or a need that is gone or stands elsewhere), and no numbers
+    goal      refused by a fact: what is asked at a place isn't what the proof shows there, or the prover's search finds no proof of a goal that the proof's
+              files have no answer for. A version that computes the same in another form can be refused so, too
+    misfit    refused, but the proof's text no longer fits the code's shape (a step, a field or a goal that is gone or of another kind), and no numbers
               are printed: that says little about the contract
     survived  proved: either it computes the same, or the contract has a hole
     same      proved, and listed as one that computes the same

@@ -2,8 +2,8 @@
 
 Each maker takes a crate, a function and the place of a token in its body, and gives (kind, start, end, new) for each error that it makes there.
 
-Two things are left out. A function that answers nothing and is lent nothing to write can have no contract that decides: it prints. And of a table, a match of
-more than 100 arms, whose rows are all read by one computation of the prover, only some errors are made.
+Two things are left out. A function that is lent nothing to write and answers nothing, or only whether its writing failed, has no contract that decides: it
+prints. And of a table, a match of more than 100 arms, whose rows are all read by one computation of the prover, only some errors are made.
 """
 import collections
 import hashlib

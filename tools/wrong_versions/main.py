@@ -1,6 +1,7 @@
 """The command line."""
 import argparse
 import collections
+import os
 import sys
 from concurrent.futures import ThreadPoolExecutor
 from pathlib import Path
@@ -8,7 +9,7 @@ from pathlib import Path
 from . import __doc__ as how
 from .listed import EQUIVALENT, computes_the_same, listed, listed_crates
 from .made_up import in_order, made_up
-from .prover import Prover, crate_lines, dependencies_proved
+from .prover import Prover, all_proved, crate_lines
 from .trial import Trial
 from .version import Crate
 
@@ -20,8 +21,9 @@ USAGE = """tools/wrong-versions [--listed] [--sample N [--seed S] | --all] [CRAT
 
 The last line is 'N passed, M failed'. What is refused by a fact passes, and so does a made-up error that tests/wrong-versions/equivalent.txt has as one that
 computes the same, if it is proved. Misfits among made-up errors are counted apart, and fail where more than a tenth are. A table by crate stands before the
-last line. --repo names the folder with crates.txt; only its target/ is written to."""
-AT_ONCE = 2
+last line. --repo names the folder with crates.txt, where rt proves the crates first; nothing else of it is written to."""
+# Crates tried side by side: a check takes a processor, and 1 to 4 GB.
+AT_ONCE = min(4, os.cpu_count() or 1)
 VERDICTS = ("numbers", "goal", "misfit", "same", "survived", "invalid", "unknown")
 MOST_MISFITS = 0.1
 
@@ -83,7 +85,7 @@ def crates_of(given):
     if given.crates:
         return given.crates
     with_lists = listed_crates(given.repo) if given.listed else []
-    libraries = [name for name, _ in crate_lines(given.repo) if Path(given.repo, "crates", name, "src/lib.rt").is_file()]
+    libraries = [name for name in crate_lines(given.repo) if Path(given.repo, "crates", name, "src/lib.rt").is_file()]
     return sorted({*with_lists, *(libraries if given.sample or given.all else [])})
 
 
@@ -140,7 +142,7 @@ def main():
     works, reasons = works_of(given), computes_the_same(given.repo)
     gone = stale(given, works, reasons)
     works = sorted((work for work in works if work.size()), key=lambda work: -work.size())
-    dependencies_proved(given.repo, [work.crate.name for work in works])
+    all_proved(given.repo, [work.crate.name for work in works])
     tell = teller(reasons)
     with ThreadPoolExecutor(AT_ONCE) as pool:
         list(pool.map(lambda work: go(given.repo, work, tell), works))

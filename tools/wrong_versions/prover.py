@@ -2,87 +2,127 @@
 import os
 import shutil
 import subprocess
+import tempfile
 from pathlib import Path
 
 # Of the processor, for one run: a busy machine makes no verdict another.
 SECONDS = 600
 
 
+class Listed:
+    """A crate of crates.txt: its name, what it depends on, and whether it is a static library."""
+
+    def __init__(self, words, others):
+        self.name, self.others, self.is_static = words[0], others, "staticlib" in words[1:]
+
+
 def crate_lines(repo):
-    """The crates of a repository, each with what it depends on."""
+    """The crates of a repository by name, lowest first, as crates.txt has them."""
+    found = {}
     for line in Path(repo, "crates.txt").read_text().splitlines():
-        name, colon, others = line.split("#")[0].partition(":")
+        words, colon, others = line.split("#")[0].partition(":")
         if colon:
-            yield name.strip(), others.split()
+            found[words.split()[0]] = Listed(words.split(), others.split())
+    return found
 
 
-def dependencies_proved(repo, crates):
-    """Proves what some crates depend on, by one `rt`: two of them in one repository write over each other's marks."""
-    lines = dict(crate_lines(repo))
+def is_program(repo, name):
+    return Path(repo, "crates", name, "src/main.rt").is_file()
+
+
+def below(lines, name):
+    """The repository's crates that one rests on, those below first."""
+    found = []
+    for other in lines[name].others:
+        found += [it for it in [*below(lines, other), other] if it not in found] if other in lines else []
+    return found
+
+
+def all_proved(repo, crates):
+    """Proves some crates as they are, and what they depend on first: rt keeps what it proves in each crate's out/, and takes what has not changed from there."""
+    lines = crate_lines(repo)
     unknown = [name for name in crates if name not in lines]
     if unknown:
         raise SystemExit("crates.txt has no " + unknown[0])
-    below = sorted({name for crate in crates for name in lines[crate] if name in lines})
-    done = subprocess.run(["rt", "check", *below], cwd=repo, stdout=subprocess.PIPE, stderr=subprocess.STDOUT, text=True) if below else None
-    if done and done.returncode != 0:
-        raise SystemExit("a crate below isn't proved as it is:\n" + done.stdout[-2000:])
+    wanted = {it for name in crates for it in [*below(lines, name), name]}
+    for name in sorted(wanted, key=lambda it: (len(below(lines, it)), it)):
+        words = ["rt", "check" if is_program(repo, name) else "lib"]
+        done = subprocess.run(words, cwd=Path(repo, "crates", name), stdin=subprocess.DEVNULL, stdout=subprocess.PIPE, stderr=subprocess.STDOUT, text=True)
+        if done.returncode != 0:
+            raise SystemExit("%s isn't proved as it is:\n%s" % (name, done.stdout[-2000:]))
+
+
+def linked(folder, to):
+    """Copies an incremental folder. A module that was checked is written anew and never changed, so a hard link does where the file system can."""
+
+    def copy(one, other):
+        try:
+            if one.endswith(".oantt"):
+                return os.link(one, other)
+        except OSError:
+            pass
+        return shutil.copy2(one, other)
+
+    shutil.copytree(folder, to, copy_function=copy)
 
 
 class Prover:
     def __init__(self, repo, crate):
         self.repo, self.crate = Path(repo).resolve(), crate
-        self.home = Path(os.environ.get("RATTLE_HOME") or Path(shutil.which("rt")).resolve().parent.parent)
-        self.own = self.home / "on" / os.uname().machine
-        self.target = self.repo / "target"
-        self.kept = self.target / "wrong-versions" / ("kept-" + crate)
-        self.copy = self.target / "wrong-versions" / ("copy-" + crate)
+        self.kit = Path(os.environ.get("RATTLE_HOME") or Path(shutil.which("rt")).resolve().parent.parent)
+        self.lines = crate_lines(repo)
+        self.folder = self.repo / "crates" / crate
+        # Beside the system's other temporary files: rt refuses a file of Rattle or antt of the repository that stands in no crate.
+        self.room = Path(tempfile.mkdtemp(prefix="wrong-versions-%s-" % crate))
+        self.kept, self.copy = self.room / "kept", self.room / "copy"
 
     def words(self):
         """As rt's own for `rattle check`, of the copy."""
-        program = (self.copy / "src/main.rt").exists()
-        words = [self.own / "bin/rattle", "check", "--crate-name", self.crate, self.copy / "src" / ("main.rt" if program else "lib.rt")]
-        words += ["--extern", "std=%s" % (self.own / "rlib/std.rlib")]
-        for name in dict(crate_lines(self.repo))[self.crate]:
-            home = self.target if (self.repo / "crates" / name / "src").is_dir() else self.own
-            words += ["--extern", "%s=%s" % (name, home / "rlib" / (name + ".rlib"))]
-        for home in (self.target, self.own):
-            words += ["-L", "dependency=%s" % (home / "rlib")]
-        words += ["--antt-project", self.home / "logic/antt-project.json", "--logic-built", self.own / "logic-built"]
+        listed, home = self.lines[self.crate], self.kit / "rlibs"
+        rlib = lambda name: self.repo / "crates" / name / "out/rlib" / (name + ".rlib")
+        words = [self.kit / "bin/rattle", "check", "--crate-name", self.crate, "src/%s.rt" % ("main" if is_program(self.repo, self.crate) else "lib")]
+        for name in ["std", *(it for it in listed.others if it not in self.lines)]:
+            words += ["--extern", "%s=%s" % (name, home / (name + ".rlib"))]
+        words += ["-L", "dependency=%s" % home]
+        for name in listed.others:
+            words += ["--extern", "%s=%s" % (name, rlib(name))] if name in self.lines else []
+        for name in below(self.lines, self.crate):
+            words += ["-L", "dependency=%s" % rlib(name).parent]
+        words += ["--antt-project", self.kit / "rattle/logic/antt-project.json", "--logic-built", self.kit / "logic_built", "--jobs", "1"]
+        words += ["--crate-type", "staticlib"] if listed.is_static else []
         return [str(word) for word in words + ["--incremental", self.copy / "inc"]]
 
     def prepare(self):
-        """Proves the crate as it is, and keeps the prover's incremental folder; what `rt dev` has kept of the crate is a start. What it depends on has been
-        proved: see dependencies_proved."""
-        shutil.rmtree(self.kept, ignore_errors=True)
-        self.kept.mkdir(parents=True)
-        if (self.target / "inc" / self.crate).is_dir():
-            shutil.copytree(self.target / "inc" / self.crate, self.kept, dirs_exist_ok=True)
+        """Checks a copy of the crate as it is over what rt has kept of it, and keeps that: see all_proved."""
+        if (self.folder / "out/incremental").is_dir():
+            linked(self.folder / "out/incremental", self.kept)
+        self.kept.mkdir(exist_ok=True)
         status, said = self.run([])
         if status != 0 or "logic=proved" not in said:
             raise SystemExit("%s isn't proved as it is:\n%s" % (self.crate, said[-2000:]))
         shutil.rmtree(self.kept)
-        shutil.copytree(self.copy / "inc", self.kept)
+        (self.copy / "inc").rename(self.kept)
 
     def remove(self):
-        for folder in (self.kept, self.copy):
-            shutil.rmtree(folder, ignore_errors=True)
+        shutil.rmtree(self.room, ignore_errors=True)
 
     def write_copy(self, changes):
-        """A copy of the crate with some changes, beside hard links to what was kept: what the prover writes there is written anew."""
+        """A copy of the crate with some changes, beside a copy of what was kept."""
         shutil.rmtree(self.copy, ignore_errors=True)
-        self.copy.mkdir(parents=True)
+        self.copy.mkdir()
         for part in ("src", "specs", "proofs"):
-            if (self.repo / "crates" / self.crate / part).is_dir():
-                shutil.copytree(self.repo / "crates" / self.crate / part, self.copy / part)
+            if (self.folder / part).is_dir():
+                shutil.copytree(self.folder / part, self.copy / part)
         for change in sorted(changes, key=lambda c: -c.start):
             path = self.copy / change.file
             text = path.read_text()
             path.write_text(text[:change.start] + change.new + text[change.end:])
-        shutil.copytree(self.kept, self.copy / "inc", copy_function=os.link)
+        linked(self.kept, self.copy / "inc")
 
     def run(self, changes):
         """Checks the crate with some changes: its exit status, below 0 where it ran out of time, and what was said."""
         self.write_copy(changes)
         words = ["prlimit", "--cpu=%d" % SECONDS, *self.words()]
-        done = subprocess.run(words, stdout=subprocess.PIPE, stderr=subprocess.STDOUT, text=True)
+        how = {"cwd": self.copy, "stdin": subprocess.DEVNULL, "stdout": subprocess.PIPE, "stderr": subprocess.STDOUT}
+        done = subprocess.run(words, text=True, errors="replace", **how)
         return done.returncode, done.stdout.replace(str(self.copy) + "/", "")

@@ -11,6 +11,8 @@ TOKEN = re.compile(
 )
 Token = collections.namedtuple("Token", "kind text start end")
 OPENING, CLOSING = ("(", "[", "{"), (")", "]", "}")
+# The answer of what only writes.
+WRITES = ["io", "::", "Result", "<", "(", ")", ">"]
 
 
 def tokens_of(text):
@@ -61,9 +63,11 @@ class Function:
         opened = next_of(tokens, at, "(")
         closed = closing(tokens, opened)
         self.parameters = [p for a, b in split_commas(tokens, opened + 1, closed) for p in self.parameter(a, b)]
-        # A contract can say what it does: it answers something, or is lent something to write.
-        self.can_decide = tokens[closed + 1].text == "->" or any(a.text == "&" and b.text == "mut" for a, b in zip(tokens[opened:closed], tokens[opened + 1:]))
         self.first = body_from(tokens, closed + 1)
+        # A contract can say what it does: it is lent something to write, or answers more than whether its writing failed.
+        behind = [t.text for t in tokens[closed + 1:self.first]]
+        lent = any(a.text == "&" and b.text == "mut" for a, b in zip(tokens[opened:closed], tokens[opened + 1:]))
+        self.can_decide = lent or behind[:1] == ["->"] and behind[1:] != WRITES
         self.last = closing(tokens, self.first) if tokens[self.first].text == "{" else self.first
 
     def parameter(self, a, b):
@@ -88,8 +92,9 @@ class Function:
 def body_from(tokens, j):
     """The bracket that opens a body, or the semicolon in its place: behind the answer's type and the clauses."""
     while tokens[j].text not in ("{", ";"):
-        if tokens[j].text in ("requires", "ensures", "ghost") and tokens[j + 1].text == "{":
-            j = closing(tokens, j + 1) + 1
+        if tokens[j].text in ("requires", "ensures", "ghost"):
+            # A clause may have a name, as `ensures low { .. }`.
+            j = closing(tokens, next_of(tokens, j, "{")) + 1
         elif tokens[j].text == "[":
             j = closing(tokens, j) + 1
         else:

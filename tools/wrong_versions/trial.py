@@ -2,31 +2,39 @@
 import re
 from pathlib import Path
 
-from .version import one_line
+from .names import respelled
+from .version import Change, one_line
 
 TOGETHER = 12
-ERROR = re.compile(r"^(?P<file>[^\s:]+):(?P<line>\d+):\d+: error(?:\[[\w-]+\])?: (?P<text>.*)$")
+# How often the names of a version's proof are brought to the code's before it is a misfit.
+ROUNDS = 3
+ERROR = re.compile(r"^(?:\./)?(?P<file>[^\s:]+):(?P<line>\d+):\d+: error(?:\[[\w-]+\])?: (?P<text>.*)$")
+# A goal without an answer in a file, for which the prover's own search finds no proof but numbers.
+FALSE = re.compile(r"^note: (?P<text>`[^`]+` of (?:\./)?(?P<file>\S+) may be false: .*)$")
 NO_VERDICT = re.compile(r"^rattle: no verdict", re.M)
+# Numbers at which what is asked is false.
+NUMBERS = re.compile(r"and the (?:goal|part) fails, at|may be false: the known facts allow")
 # An error that another one brings with it.
-NOT_OWN = re.compile(r"was not admitted \(|cannot be checked|so this cannot|could not be checked")
-# The proof's text doesn't fit the code: a place, a field or a need isn't there, or stands where another one was.
+NOT_OWN = re.compile(r"was not admitted \(|is not admitted: rejected|cannot be checked|so this cannot|could not be checked|(?:was|were) not checked")
+# The proof's text doesn't fit the code: a step, a field or a goal isn't there, or is of another kind.
 MISFIT = re.compile(
-    r"has no (?:field )?`|has no item|has no module|no field|not in scope|unknown name|no such|does not export|not exported|not declared|not defined"
-    r"|this pattern needs|too many arguments|too few arguments|more arguments|fewer arguments|takes no|not a function|expected a function"
-    r"|is not a record|undetermined|could not determine"
+    r"has no (?:field )?`|has no item|has no module|no field|not in scope|unknown name|no such|does not export|exports no|not exported|not declared|not defined"
+    r"|already declared|this pattern needs|too many arguments|too few arguments|more arguments|fewer arguments|takes no|not a function|expected a function"
+    r"|is applied to an argument but has type|a tuple is checked against|projects from a|is not a record|undetermined|could not determine|was not determined"
 )
-# A need that the proof has no line for, or has a line too many for: said on any line of an error.
-OTHER_NEED = re.compile(r"(?:expected type|this has type) `tie\.Need-")
-NO_PROOF = "goal", "it has no proof file, and the prover finds no proof"
+# The prover's search finds no proof of a goal that the function's proof files have no answer for, if there are any.
+NO_PROOF = re.compile(r"^fn (?P<path>\S+): no proof: expected .*$", re.M)
 
 
 def errors_of(said):
     """The errors: [file, line, text with the lines that go on]. The lines that go on behind a note are the note's."""
     found, goes_on = [], False
     for line in said.splitlines():
-        m = ERROR.match(line)
+        m, false = ERROR.match(line), FALSE.match(line)
         if m:
             found.append([m["file"], int(m["line"]), m["text"]])
+        elif false:
+            found.append([false["file"], 0, false["text"]])
         elif goes_on and line[:1] in (" ", "\t"):
             found[-1][2] += "\n" + line
         goes_on = bool(m) or goes_on and line[:1] in (" ", "\t")
@@ -44,24 +52,26 @@ def is_proof_of(file, function):
 
 
 def without_proof(said, function):
-    """Whether the prover says that it found no proof of a function that has no proof file."""
+    """What the prover says where it found no proof of a function, or None."""
     own = [function.owner, function.name] if function.owner else [part for part in (function.module, function.name) if part]
-    for m in re.finditer(r"^fn ([\w:]+): no proof", said, re.M):
-        parts = m[1].split("::")
+    for m in NO_PROOF.finditer(said):
+        parts = m["path"].split("::")
         if own == (parts[-2:] if function.owner else parts[1:]):
-            return True
-    return False
+            return one_line(m[0])[:300]
+    return None
 
 
-def verdict_of(errors):
-    """numbers, goal or misfit, by errors that no other error brings with it, and what one of them says; or None."""
+def verdict_of(errors, unproved=None):
+    """numbers, goal or misfit, by errors that no other error brings with it and by what is said of a function without a proof, and what one of them says; or
+    None."""
     own = [e for e in errors if not NOT_OWN.search(e[2])]
-    if not own:
-        return None
-    with_numbers = [e for e in own if "and the goal fails" in e[2]]
-    of_shape = [e for e in own if MISFIT.search(e[2].split("\n")[0][:500]) or OTHER_NEED.search(e[2])]
-    file, line, text = (with_numbers or of_shape or own)[0]
-    return "numbers" if with_numbers else "misfit" if of_shape else "goal", "%s:%d %s" % (file, line, one_line(text)[:300])
+    with_numbers = [e for e in own if NUMBERS.search(e[2])]
+    of_shape = [e for e in own if MISFIT.search(e[2].split("\n")[0][:500])]
+    for verdict, found in ("numbers", with_numbers), ("misfit", of_shape), ("goal", own):
+        if found:
+            file, line, text = found[0]
+            return verdict, "%s:%d %s" % (file, line, one_line(text)[:300])
+    return ("goal", unproved) if unproved else None
 
 
 class Trial:
@@ -69,17 +79,35 @@ class Trial:
         self.prover, self.crate = prover, crate
 
     def alone(self, version):
-        status, said = self.prover.run(version.changes)
-        if status < 0 or NO_VERDICT.search(said):
-            return version.note("unknown", "out of time" if status < 0 else said[-200:])
-        if status == 0 and "logic=proved" in said:
-            return version.note("survived", "")
+        """One in a run of its own. Where the proof only misses names, which the prover makes of the code, the names are brought to the code's."""
+        proofs = self.proofs_of(version.function) if version.function else {}
+        texts = dict(proofs)
+        for _ in range(ROUNDS):
+            said = self.judge(version, version.changes + [Change(file, 0, len(proofs[file]), text) for file, text in texts.items() if text != proofs[file]])
+            new = respelled(texts, said) if version.verdict == "misfit" else texts
+            if new == texts:
+                break
+            texts = new
+
+    def proofs_of(self, function):
+        """The texts of a function's own proof files."""
+        files = [path.relative_to(self.crate.folder) for path in sorted((self.crate.folder / "proofs").rglob("*.antt"))]
+        return {str(file): (self.crate.folder / file).read_text() for file in files if is_proof_of(file, function)}
+
+    def judge(self, version, changes):
+        """Notes the verdict of a version by itself, and gives what the prover says."""
+        status, said = self.prover.run(changes)
         errors = errors_of(said)
-        if "logic=not-proved" not in said:
-            return version.note("invalid", one_line(errors[0][2] if errors else said)[:200])
-        if version.function and without_proof(said, version.function):
-            return version.note(*NO_PROOF)
-        version.note(*(verdict_of(errors) or ("misfit", "no error of its own: " + said[-200:])))
+        if status < 0 or NO_VERDICT.search(said):
+            version.note("unknown", "out of time" if status < 0 else said[-200:])
+        elif status == 0 and "logic=proved" in said:
+            version.note("survived", "")
+        elif "logic=not-proved" not in said:
+            version.note("invalid", one_line(errors[0][2] if errors else said)[:200])
+        else:
+            unproved = without_proof(said, version.function) if version.function else None
+            version.note(*(verdict_of(errors, unproved) or ("misfit", "no error of its own: " + said[-200:])))
+        return said
 
     def lines(self, version, group):
         """The lines of a version's function in the file with all changes of the group."""
@@ -101,19 +129,19 @@ class Trial:
         return left
 
     def judged(self, group, said):
-        """The group without those that have an error of their own."""
+        """The group without those that a fact refuses, by an error of their own."""
         left = []
         for version in group:
-            verdict = verdict_of([e for e in errors_of(said) if is_proof_of(e[0], version.function)])
-            verdict = NO_PROOF if without_proof(said, version.function) else verdict
-            if verdict:
+            errors = [e for e in errors_of(said) if is_proof_of(e[0], version.function)]
+            verdict = verdict_of(errors, without_proof(said, version.function))
+            if verdict and verdict[0] != "misfit":
                 version.note(*verdict)
             else:
                 left.append(version)
         return left
 
     def together(self, group):
-        """Several in one run. Those without an error of their own are tried alone."""
+        """Several in one run. Those that no fact refuses there are tried alone."""
         while len(group) > 1:
             status, said = self.prover.run([c for version in group for c in version.changes])
             if status < 0 or NO_VERDICT.search(said):
