@@ -24,25 +24,39 @@ needed() {
   command -v "$1" >/dev/null || fail "there is no '$1' on the path: $2. Install it, or take a release, which needs Python alone (docs/USING.md)"
 }
 
-# ---- building on first use ----
+# ---- building ----
 
-# crate_seconds NAME..: the crates named and all they rest on, each with the seconds that it took last, here or (scripts/crate-seconds) elsewhere.
+# What rt proves and builds stays in each crate's out/, and goes with it where rt puts that aside. What the scripts run and link is copied from there to
+# target/bin and target/staticlib, here alone.
+
+# crate_kind NAME: program, static or library.
+crate_kind() {
+  if [ -f "$root/crates/$1/src/main.rt" ]; then
+    echo program
+  elif grep -qE "^$1 +staticlib *:" "$root/crates.txt"; then
+    echo static
+  else
+    echo library
+  fi
+}
+
+# crate_seconds NAME..: the crates named and all they rest on, lowest first, each with the seconds that it took last, here or (scripts/crate-seconds) elsewhere.
 crate_seconds() {
   local kept=$root/target/crate-seconds
   [ -f "$kept" ] || kept=/dev/null
   awk -v wanted="$*" '
     /^#/ { next }
-    /:/ { name = $1; sub(":", "", name); below[name] = substr($0, index($0, ":") + 1); next }
+    /:/ { name = $1; sub(":", "", name); line[++lines] = name; below[name] = substr($0, index($0, ":") + 1); next }
     { seconds[$1] = $2 }
     END {
       n = split(wanted, due, " ")
       for (i = 1; i <= n; i++) {
         if (!(due[i] in below) || due[i] in seen) continue
         seen[due[i]] = 1
-        print due[i], (due[i] in seconds) ? seconds[due[i]] : 10
         m = split(below[due[i]], more, " ")
         for (j = 1; j <= m; j++) due[++n] = more[j]
       }
+      for (i = 1; i <= lines; i++) if (line[i] in seen) print line[i], (line[i] in seconds) ? seconds[line[i]] : 10
     }' "$root/scripts/crate-seconds" "$kept" "$root/crates.txt"
 }
 
@@ -51,63 +65,59 @@ about() {
   if [ "$1" -lt 90 ]; then echo "about $1 s"; else echo "about $((($1 + 30) / 60)) min"; fi
 }
 
-# What rt prints, as a line for each crate of $seconds when it is proved, with what is left of $left seconds. The time it took is kept for the next estimate.
-progress() {
-  local line name took count=${#seconds[@]} proved=0 since=$SECONDS
-  while IFS= read -r line; do
-    if [[ $line =~ ^rt:\ ([a-z0-9_]+)\ proved\ \((.*)\)$ ]]; then
-      name=${BASH_REMATCH[1]} took=${BASH_REMATCH[2]}
-    elif [[ $line =~ ^rt:\ target/staticlib/lib([a-z0-9_]+)\.a\ has ]]; then
-      name=${BASH_REMATCH[1]} took="$((SECONDS - since)) s"
-    else
-      continue
-    fi
-    since=$SECONDS
-    [ -n "${seconds[$name]-}" ] || continue
-    left=$((left - seconds[$name])) proved=$((proved + 1))
-    unset "seconds[$name]"
-    case $took in
-      *[0-9]' s') mkdir -p "$root/target" && echo "$name ${took% s}" >>"$root/target/crate-seconds" ;;
-    esac
-    echo "$me: $proved of $count, $name: proved ($took), $(about "$left") left"
-  done
+# take FILE FOLDER: copies what rt built to target/FOLDER, unless the same stands there.
+take() {
+  local to=$root/target/$2 name=${1##*/}
+  [ -f "$1" ] || { echo "rt built no '$PWD/$1'"; return 1; }
+  mkdir -p "$to" || return
+  cmp -s "$1" "$to/$name" || { cp "$1" "$to/.$name.$$" && mv "$to/.$name.$$" "$to/$name"; }
 }
 
-# build WORDS..: runs 'rt WORDS' for each argument: a verb and crates.
+# built NAME: proves and builds a crate by rt, which says how; a program is also run, with no input, since that is how rt builds one.
+built() {
+  cd "$root/crates/$1" || return
+  case $(crate_kind "$1") in
+    program) rt run </dev/null 2>&1 >/dev/null && take "out/$1" bin ;;
+    static) rt lib </dev/null 2>&1 && take "out/lib$1.a" staticlib ;;
+    library) rt lib </dev/null 2>&1 ;;
+  esac
+}
+
+# build NAME..: these crates and all they rest on, lowest first, with a line for each when it is proved, and what is left of the time. What one took that was
+# proved from nothing is kept for the next estimate.
 build() {
-  local name took names=("${@#* }") left=0
+  local name took since count=0 proved=0 left=0 names=()
   local -A seconds
   needed rt "the engine is proved and built with it"
   while read -r name took; do
-    seconds[$name]=$took left=$((left + took))
-  done < <(crate_seconds "${names[@]}")
-  echo "$me: building; ${#seconds[@]} crates are proved first, where they aren't yet, which takes $(about "$left")" >&2
-  # shellcheck disable=SC2086 # words
-  (cd "$root" && for words in "$@"; do rt $words || exit; done) </dev/null 2>&1 | tee "$work/log" | progress >&2
-  if [ "${PIPESTATUS[0]}" -ne 0 ]; then
-    tail -n 20 "$work/log" >&2
-    fail "the build failed"
-  fi
+    names+=("$name") seconds[$name]=$took left=$((left + took)) count=$((count + 1))
+  done < <(crate_seconds "$@")
+  echo "$me: building; $count crates are proved first, where they aren't yet, which takes $(about "$left")" >&2
+  for name in "${names[@]}"; do
+    since=$SECONDS
+    if ! (built "$name") >"$work/log"; then
+      tail -n 20 "$work/log" >&2
+      fail "the build failed"
+    fi
+    took="$((SECONDS - since)) s"
+    if grep -q "^crate $name: modules loaded=0 " "$work/log"; then
+      mkdir -p "$root/target" && echo "$name ${took% s}" >>"$root/target/crate-seconds"
+    elif ! grep -q "^crate $name: .* checked=[1-9]" "$work/log"; then
+      took="unchanged since it was last proved"
+    fi
+    left=$((left - seconds[$name])) proved=$((proved + 1))
+    echo "$me: $proved of $count, $name: proved ($took), $(about "$left") left" >&2
+  done
 }
 
 # build_program NAME: the program NAME, in $program, built if it isn't there.
 build_program() {
   program=$root/target/bin/$1
-  [ -x "$program" ] && return
-  build "check $1"
-  # rt remembers what it has proved, not that the program is still there.
-  [ -x "$program" ] || fail "all is proved, but '$program' is gone: remove '$root/target' and start again"
+  [ -x "$program" ] || build "$1"
 }
 
-# build_all NAME..: these programs and all static libraries. rt proves a crate again for its static library, so one that is newer than its proof is kept.
-build_all() {
-  local library due=()
-  build "check $* ${libraries[*]}"
-  for library in "${libraries[@]}"; do
-    [ "$root/target/staticlib/lib$library.a" -nt "$root/target/stamp/$library" ] || due+=("staticlib $library")
-  done
-  [ "${#due[@]}" -eq 0 ] || build "${due[@]}"
-}
+# build_all NAME..: these programs and all static libraries.
+build_all() { build "$@" "${libraries[@]}"; }
 
 # The commit, with a mark where files differ from it.
 commit_name() {
@@ -169,25 +179,32 @@ unbuilt_copy() {
   mkdir -p "$copy/scripts" "$work/path"
   cp "$root/scripts/shared.sh" "$root/scripts/crate-seconds" "$copy/scripts/"
   cp "$root/crates.txt" "$copy/"
+  (cd "$root" && find crates -path 'crates/*/src/*' \( -name lib.rt -o -name main.rt \) -exec cp --parents {} "$copy/" \;)
 }
 
 # rt_that LINES: $work/path has an rt of these shell lines, and nothing is built in the copy.
 rt_that() {
   printf '#!/usr/bin/env bash\n%s\n' "$1" >"$work/path/rt"
   chmod +x "$work/path/rt"
-  rm -rf "$copy/target" "$work/seen"
+  rm -rf "$copy"/target "$copy"/crates/*/out "$work/seen"
 }
 
-# rt_builds WORDS FILE FROM: an rt that proves nothing, says of each of three crates that it is proved, and on these words copies FROM to FILE of the copy. It
-# goes on after the first crate when the line of it was seen, or after ten seconds.
+# rt_builds CRATE PROGRAM: an rt that proves nothing. It says of some crates that they are proved, each where it is asked to build it, and of basics nothing, as
+# if that were unchanged; the program CRATE is a copy of PROGRAM. It goes on after month_starts when the line of that was seen, and fails if it wasn't in ten
+# seconds.
 rt_builds() {
-  rt_that "echo 'fn calendar::month: proved'
-echo 'rt: basics proved (unchanged since it was last proved)'
-echo 'rt: month_starts proved (9 s)'
-for i in {1..100}; do [ ! -e '$work/seen' ] || break; sleep 0.1; done
-[ ! -e '$work/seen' ] || echo 'rt: calendar proved (66 s)'
-echo 'rt: another proved (5 s)'
-[ \"\$*\" = '$1' ] && mkdir -p \"\$(dirname '$2')\" && cp '$3' '$2'"
+  rt_that "name=\${PWD##*/}
+echo 'fn calendar::month: proved'
+case \$name in
+  basics) ;;
+  month_starts) echo \"crate \$name: modules loaded=0 checked=9\" ;;
+  calendar)
+    for i in {1..100}; do [ ! -e '$work/seen' ] || break; sleep 0.1; done
+    [ -e '$work/seen' ] || exit 1
+    echo \"crate \$name: modules loaded=0 checked=66\" ;;
+  $1) [ \"\$*\" = run ] && mkdir -p out && cp '$2' out/ && echo a line of the program ;;
+  *) [ \"\$*\" = lib ] && echo \"crate \$name: modules loaded=5 checked=1\" ;;
+esac"
 }
 
 # first_time COMMAND WORDS..: the copy's command with the rt of $work/path. Its line of month_starts is marked as seen when it is there.
@@ -195,33 +212,35 @@ first_time() {
   local status
   PATH=$work/path:$PATH "$copy/$1" "${@:2}" 2>&1 >"$work/first" | while IFS= read -r line; do
     echo "$line" >&2
-    case $line in *"month_starts: proved (9 s)"*) : >"$work/seen" ;; esac
+    case $line in *"month_starts: proved ("*" s), "*) : >"$work/seen" ;; esac
   done
   status=${PIPESTATUS[0]}
   cat "$work/first"
   return "$status"
 }
 
-quiet() { ! first_time "$@" 2>&1 | grep -a '^fn \|another'; }
+quiet() { ! first_time "$@" 2>&1 | grep -a '^fn \|^crate \|^a line'; }
 no_rt() { PATH=$work/tools "$copy/$1" "${@:2}"; }
 
-# check_first_time OUT COMMAND WORDS..: what ./study and ./load say and do where their program isn't built; it is built by 'rt check $crate' as a copy of $engine.
+# check_first_time OUT COMMAND WORDS..: what ./study and ./load say and do where their program isn't built.
 check_first_time() {
-  local out=$1 builds=("check $crate" "target/bin/$crate" "$engine")
+  local out=$1 builds=("$crate" "$engine")
   shift
   rt_builds "${builds[@]}"
   check "the first time: says what it does, and how long it takes" 0 "$out" "^$1: building; [0-9]* crates are proved first, where they aren't yet, which takes about [0-9]* min$" first_time "$@"
-  result "the first time: the seconds of a crate are kept" "$(diff <(printf 'month_starts 9\ncalendar 66\n') "$copy/target/crate-seconds" 2>&1)"
+  result "the first time: the seconds of a crate that is proved from nothing are kept" "$(diff <(printf '%s s\n' month_starts calendar) <(sed 's/ [0-9]*$/ s/' "$copy/target/crate-seconds") 2>&1)"
   check "the second time: says nothing" 0 "$out" '' first_time "$@"
   rt_builds "${builds[@]}"
-  check "the first time: a line for each crate at once" 0 "$out" "^$1: 3 of [0-9]*, calendar: proved (66 s), about [0-9]* \(s\|min\) left$" first_time "$@"
+  check "the first time: a line for each crate at once" 0 "$out" "^$1: 3 of [0-9]*, calendar: proved ([0-9]* s), about [0-9]* \(s\|min\) left$" first_time "$@"
+  rt_builds "${builds[@]}"
+  check "the first time: what is proved already" 0 "$out" "^$1: 1 of [0-9]*, basics: proved (unchanged since it was last proved), " first_time "$@"
   rt_builds "${builds[@]}"
   check "the first time: nothing else that rt prints" 0 /dev/null '' quiet "$@"
   rt_that "echo 'fn calendar::month: refused'; exit 1"
   check "a build that fails" 2 /dev/null "^$1: the build failed$" first_time "$@"
   check "a build that fails: why" 2 /dev/null "^fn calendar::month: refused$" first_time "$@"
   rt_that "exit 0"
-  check "a build without a program" 2 /dev/null "^$1: all is proved, but '.*' is gone: remove '.*/target' and start again$" first_time "$@"
+  check "a build without a program" 2 /dev/null "^rt built no '.*/crates/$crate/out/$crate'$" first_time "$@"
   without_rt "$work/tools"
   check "no rt: says so, and what would do" 2 /dev/null "^$1: there is no 'rt' on the path: .* take a release, which needs Python alone" no_rt "$@"
 }

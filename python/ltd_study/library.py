@@ -120,10 +120,9 @@ def linked(static: Path, folder: Path, build: Optional[Callable[[], None]] = Non
         build()
     missing = _missing(archives)
     if missing:
-        builds = " and ".join(f"'rt staticlib {name[3:-2]}'" for name in STATIC_NAMES)
         raise NoLibrary(
-            f"the engine isn't built: there is no '{missing[0]}'. Run {builds} in '{ROOT}' (all they rest on is proved first, which takes some "
-            f"minutes), or name the shared object of a release, lib/{SHARED_NAME}, in {VARIABLE}"
+            f"the engine isn't built: there is no '{missing[0]}'. Run '{ROOT / 'scripts' / 'build-calls'}' (all that it rests on is proved first, which "
+            f"takes some minutes), or name the shared object of a release, lib/{SHARED_NAME}, in {VARIABLE}"
         )
     if not _is_newer(shared, archives):
         _link(archives, shared)

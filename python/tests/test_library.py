@@ -91,7 +91,7 @@ class Linking(DeskTest):
         (self.static / "libc_abi.a").unlink()
         with self.assertRaises(NoLibrary) as caught:
             linked(self.static, self.shared)
-        for wanted in ("libc_abi.a", "rt staticlib c_file", "rt staticlib c_abi", "LTD_STUDY_LIBRARY"):
+        for wanted in ("libc_abi.a", "scripts/build-calls", "LTD_STUDY_LIBRARY"):
             self.assertIn(wanted, str(caught.exception))
 
     def test_no_compiler(self) -> None:
@@ -123,5 +123,5 @@ class Linking(DeskTest):
         words = [sys.executable, str(copy / "python" / "ltd.py"), "pack", "x.csv", "x.claims", "--window", "2010-01-01", "2010-12-31"]
         run = subprocess.run(words, cwd=self.folder, env=kept, capture_output=True, text=True, check=False)
         self.assertEqual(run.returncode, 2)
-        self.assertIn(f"Run 'rt staticlib c_file' and 'rt staticlib c_abi' in '{copy.resolve()}'", run.stderr)
+        self.assertIn(f"Run '{copy.resolve()}/scripts/build-calls'", run.stderr)
         self.assertTrue(subprocess.run([sys.executable, str(copy / "python" / "ltd.py"), "--help"], env=kept, capture_output=True, check=True).stdout)
