@@ -1,13 +1,18 @@
 -- Laws of checks: which of them passed, and which one answers.
 -- Assumes nothing.
 use Prim.Native.Nat.{ℕ, ◌<◌}
-use mathlib.Core.Path.{◌≡◌, refl, sym, ◌∙◌}
+use mathlib.Core.Path.{◌≡◌, refl}
 use mathlib.Core.Bool.{Bool, true, false}
 use lib.Dec.{eqb}
 use borrow.Author.Tests.{eqb-true, eq-eqb, ne_eqb}
 use Rattle.basics.specs.Pick.{pick}
 use Rattle.basics.specs.Checks.{check, ◌then◌}
 use Rattle.basics.proofs.Tests.{tests, by}
+
+-- one check and then another
+pub then_is : (a b : ℕ) → (a then b) ≡ pick (eqb a 0) b a
+unfolding ◌then◌
+then_is a b = refl
 
 -- a check that gives 0 passed
 pub check-passed : (t : Bool) (n : ℕ) → 0 < n → check t n ≡ 0 → t ≡ true

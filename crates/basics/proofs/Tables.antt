@@ -1,17 +1,15 @@
 -- A table by its places: its length, what stands at a place, and tests of all its entries; a test at every place.
 -- Assumes nothing.
-use Prim.Native.Nat.{ℕ, zero, suc, zero-le, ◌+◌, ◌-◌, ◌*◌, ◌/◌, ◌%◌, ◌≤◌, ◌<◌}
+use Prim.Native.Nat.{ℕ, zero, suc, zero-le, ◌+◌, ◌≤◌, ◌<◌}
 use mathlib.Core.Path.{◌≡◌, refl, sym, ap, ap₂, ◌∙◌}
 use mathlib.Core.Bool.{Bool, true, false, ◌&&◌}
 use mathlib.Core.List.{List, [], ◌∷◌}
-use native.Mathlib.Nat.{zero-mul}
 use native.Mathlib.Numerals.{add-one}
-use lib.ListN.{length, get_or, set, drop, length-set, drop_of_length-le}
+use lib.ListN.{length, get_or, set, drop, drop_of_length-le}
 use lib.Dec.{leb, eqb}
 use lib.IntN.{ℤ, pos, nat_abs}
-use borrow.Author.Tests.{le-leb, leb-true, eq-eqb, ne_eqb}
+use borrow.Author.Tests.{le-leb, leb-true}
 use lib.Seq.{ext_get_or, get_or-set_same, get_or-set_other, drop-cons}
-use Rattle.basics.specs.Pick.{pick}
 use Rattle.basics.proofs.Tests.{tests, by, and_left, and_right}
 use Rattle.basics.specs.Tables.{table, all_within, all_at_most, every_place}
 

@@ -2,5 +2,6 @@
 pub mod Pick
 pub mod Limits
 pub mod Checks
+pub mod Refused
 pub mod Tables
 pub mod Series

@@ -5,7 +5,8 @@ pub mod limits;
 pub mod refusal;
 
 // A day number: days since 1950-01-01. A unit of its own.
-#[derive(Clone, Copy)]
+// Kept: the calendar's last day is no ghost field's bound: claim months end after it, and a window is checked with any days.
+#[derive(Clone, Copy, PartialEq, Eq, PartialOrd, Ord)]
 pub struct Day(pub u32);
 
 // A duration in months. A unit of its own.

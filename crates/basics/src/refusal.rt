@@ -1,40 +1,53 @@
-// The numbers of document 01's table of refusals, under its words, and those that document 02 adds.
-pub const WINDOW: u8 = 1;
+// The refusals of document 01's table, under its words and in the order of its numbers, and those that document 02 adds.
+ghost use Rattle.std.specs.Prelude.{◌≡◌};
+ghost use Rattle.basics.specs.Refused.{number_of, number_refused, number_in};
 
-pub const DATE: u8 = 2;
+#[derive(Clone, Copy, Debug, PartialEq, Eq)]
+pub enum Refusal {
+    Window = 1,
+    Date,
+    Status,
+    Sequence,
+    ShortElimination,
+    RateTable,
+    Cell,
+    Rate,
+    Full,
+    ShortList,
+    Block,
+    Valuation,
+    Discount,
+    TooManyRecords,
+    OtherWindow,
+    Benefit,
+    OpenClaims,
+    Withdrawal,
+    NoCount,
+    Load,
+}
 
-pub const STATUS: u8 = 3;
+// Its number in the table.
+impl From<Refusal> for u8 {
+    ghost from_gives = { λ refusal number. number ≡ number_of refusal };
 
-pub const SEQUENCE: u8 = 4;
+    fn from(refusal: Refusal) -> u8 {
+        refusal as u8
+    }
+}
 
-pub const SHORT_ELIMINATION: u8 = 5;
+// The number of the first check that failed, or 0.
+pub fn number_refused(checked: Result<(), Refusal>) -> u8
+    ensures { result ≡ number_refused checked }
+{
+    number_in(checked.err())
+}
 
-pub const RATE_TABLE: u8 = 6;
-
-pub const CELL: u8 = 7;
-
-pub const RATE: u8 = 8;
-
-pub const FULL: u8 = 9;
-
-pub const SHORT_LIST: u8 = 10;
-
-pub const BLOCK: u8 = 11;
-
-pub const VALUATION: u8 = 12;
-
-pub const DISCOUNT: u8 = 13;
-
-pub const TOO_MANY_RECORDS: u8 = 14;
-
-pub const OTHER_WINDOW: u8 = 15;
-
-pub const BENEFIT: u8 = 16;
-
-pub const OPEN_CLAIMS: u8 = 17;
-
-pub const WITHDRAWAL: u8 = 18;
-
-pub const NO_COUNT: u8 = 19;
-
-pub const LOAD: u8 = 20;
+// The number of a refusal, if there was one, or 0.
+pub fn number_in(refused: Option<Refusal>) -> u8
+    ensures { result ≡ number_in refused }
+{
+    match refused {
+        None => 0,
+        Some(refusal) => u8::from(refusal),
+    }
+}
