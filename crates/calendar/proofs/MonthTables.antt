@@ -1,8 +1,8 @@
 -- The table of month starts and the calendar's rule agree: `MonthTable`.
 -- Assumes nothing.
 use Prim.Native.Nat.{ℕ, suc, ◌+◌, ◌-◌, ◌≤◌, ◌<◌}
-use mathlib.Core.Path.{◌≡◌, refl, sym, ap}
-use mathlib.Core.Bool.{true, and-eq-true_iff}
+use mathlib.Core.Path.{◌≡◌, refl, sym, ap, ◌∙◌}
+use mathlib.Core.Bool.{Bool, true, and-eq-true_iff}
 use native.Mathlib.Omega.{arith}
 use borrow.Author.Tests.{le-leb}
 use lib.Dec.{ltb, eqb}
@@ -59,9 +59,9 @@ pub day-is : (d : Date) (n : ℕ) → is_date d ≡ true → n ≡ day_number d 
 unfolding day_of
 day-is d n h e = simp (h, e)
 
-pub month-bounds : (i : ℕ) → is_month i ≡ true → (first_month ≤ i) × (i ≤ end_month)
+pub month-bounds : {i : ℕ} {b : Bool} → b ≡ is_month i → b ≡ true → (first_month ≤ i) × (i ≤ end_month)
 unfolding is_month
-month-bounds i h = let t = simp and-eq-true_iff at h in (omega tests, omega tests)
+month-bounds p q = let h = sym p ∙ q in let t = simp and-eq-true_iff at h in (omega tests, omega tests)
 
 module _ (i n : ℕ) (h : first_month ≤ i) (l : i ≤ end_month) where
   pub first-is : n ≡ month_start i → known n ≡ first_day i

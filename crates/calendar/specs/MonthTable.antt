@@ -1,9 +1,7 @@
 -- Document 02, No. 5: the table of month starts agrees with the calendar's rule, for each date in range and for each day number, both ways.
-use Rattle.std.specs.Prelude.{ℕ, suc, ◌+◌, ◌-◌, ◌/◌, ◌%◌, ◌≤◌, ◌<◌, ◌≡◌, true, length, get_or}
+use Rattle.std.specs.Prelude.{ℕ, suc, ◌+◌, ◌-◌, ◌/◌, ◌%◌, ◌≤◌, ◌<◌, ◌≡◌, true, length, get_or, Some}
 use Rattle.month_starts.specs.MonthStarts.{month_start_days}
 use Rattle.calendar.specs.declared.Date.{Date}
-use Rattle.calendar.specs.declared.MaybeDate.TheVariants.{Found}
-use Rattle.calendar.specs.declared.MaybeMonth.TheVariants.{Index}
 use Rattle.calendar.specs.Calendar.{is_date, month_index, index_length, month_start, day_number, last_day_number, first_month, end_month}
 use Rattle.calendar.specs.DayAnswers.{known, day_of, date_at, month_at, first_day, last_day}
 
@@ -28,7 +26,7 @@ number_in d = entry (month_index d.year d.month - first_month) + (d.day - 1)
 pub record DateByTable (d : Date) : Type 0 where
   pub number : number_in d ≡ day_number d
   pub answer : day_of d ≡ known (number_in d)
-  pub back : date_at (record { 0 = number_in d }) ≡ Found d
+  pub back : date_at (record { 0 = number_in d }) ≡ Some d
 
 -- a day number: exactly one month holds it by the table, and the calls answer with that month and with the date found in it; that date has the number
 pub record DayByTable (n : ℕ) : Type 0 where
@@ -36,8 +34,8 @@ pub record DayByTable (n : ℕ) : Type 0 where
   pub below : place < 1800
   pub held : InEntry place n
   pub only : (k : ℕ) → InEntry k n → k ≡ place
-  pub month : month_at (record { 0 = n }) ≡ Index (first_month + place)
-  pub date : date_at (record { 0 = n }) ≡ Found (date_in place n)
+  pub month : month_at (record { 0 = n }) ≡ Some (first_month + place)
+  pub date : date_at (record { 0 = n }) ≡ Some (date_in place n)
   pub back : day_of (date_in place n) ≡ known n
 
 -- `proofs/MonthTables.antt` proves it

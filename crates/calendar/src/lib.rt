@@ -8,32 +8,12 @@ ghost use Rattle.calendar.specs.DayAnswers.{day_of, date_at, month_at, is_month,
 pub use basics::Day;
 
 // A calendar date, in the widths of the claim file. Any bit pattern is a value; `is_date` tells which are dates.
-#[derive(Clone, Copy)]
+// Kept: `is_date` is no ghost field, since the C interface gives any bytes, and checks 1 and 2 answer them.
+#[derive(Clone, Copy, PartialEq, Eq)]
 pub struct Date {
     pub year: u16,
     pub month: u8,
     pub day: u8,
-}
-
-// A day number, or none.
-#[derive(Clone, Copy)]
-pub enum MaybeDay {
-    Known(Day),
-    NoDay,
-}
-
-// A date, or none.
-#[derive(Clone, Copy)]
-pub enum MaybeDate {
-    Found(Date),
-    NoDate,
-}
-
-// The index of a month, year × 12 + month − 1, or none.
-#[derive(Clone, Copy)]
-pub enum MaybeMonth {
-    Index(u32),
-    NoMonth,
 }
 
 // The day number of 2099-12-31.
@@ -45,16 +25,11 @@ pub const FIRST_MONTH: u32 = 23400;
 pub const END_MONTH: u32 = 25200;
 
 // The full Gregorian leap rule, on every year.
+#[tactic(auto, unfolding(crate::specs::Calendar::leap_year))]
 fn is_leap_year(year: u16) -> bool
     ensures { result ≡ leap_year year }
 {
-    if year % 400 == 0 {
-        return true;
-    }
-    if year % 100 == 0 {
-        return false;
-    }
-    year % 4 == 0
+    year % 400 == 0 || year % 100 != 0 && year % 4 == 0
 }
 
 // The number of days of a month, by its number in the year.
@@ -72,36 +47,24 @@ fn month_length(year: u16, month: u8) -> u8
 }
 
 // Whether a date stands in the calendar.
+#[tactic(auto, using(std::proofs::lemmas::Bool::Decides::nat_tests), unfolding(crate::specs::Calendar::is_date))]
 pub fn is_date(date: Date) -> bool
     ensures { result ≡ is_date date }
 {
-    if date.year < 1950 {
-        return false;
-    }
-    if date.year > 2099 {
-        return false;
-    }
-    if date.month < 1 {
-        return false;
-    }
-    if date.month > 12 {
-        return false;
-    }
-    if date.day < 1 {
-        return false;
-    }
-    date.day <= month_length(date.year, date.month)
+    (1950..=2099).contains(&date.year)
+        && (1..=12).contains(&date.month)
+        && (1..=month_length(date.year, date.month)).contains(&date.day)
 }
 
 // The day number of a date.
-pub fn day_number(date: Date) -> MaybeDay
+pub fn day_number(date: Date) -> Option<Day>
     ensures { result ≡ day_of date }
 {
     if !is_date(date) {
-        return MaybeDay::NoDay;
+        return None;
     }
     let months = (date.year as u32 - 1950) * 12 + (date.month as u32 - 1);
-    MaybeDay::Known(Day(month_starts::start(months).0 + (date.day as u32 - 1)))
+    Some(Day(month_starts::start(months).0 + (date.day as u32 - 1)))
 }
 
 // The months from January 1950 to the one that holds a day.
@@ -119,16 +82,16 @@ fn month_of(day: Day) -> u32
 }
 
 // The date of a day number.
-pub fn date_of_day(day: Day) -> MaybeDate
+pub fn date_of_day(day: Day) -> Option<Date>
     ensures { result ≡ date_at day }
 {
     let number = day.0;
     if number > LAST_DAY {
-        return MaybeDate::NoDate;
+        return None;
     }
     let months = month_of(day);
     let start = month_starts::start(months).0;
-    MaybeDate::Found(Date {
+    Some(Date {
         year: (1950 + months / 12) as u16,
         month: (months % 12 + 1) as u8,
         day: (number - start + 1) as u8,
@@ -136,46 +99,44 @@ pub fn date_of_day(day: Day) -> MaybeDate
 }
 
 // The index of the month that holds a day.
-pub fn month_of_day(day: Day) -> MaybeMonth
+pub fn month_of_day(day: Day) -> Option<u32>
     ensures { result ≡ month_at day }
 {
     let number = day.0;
     if number > LAST_DAY {
-        return MaybeMonth::NoMonth;
+        return None;
     }
-    MaybeMonth::Index(FIRST_MONTH + month_of(day))
+    Some(FIRST_MONTH + month_of(day))
 }
 
 // Whether an index is that of a month from January 1950 to January 2100.
+#[tactic(auto, using(std::proofs::lemmas::Bool::Decides::nat_tests), unfolding(crate::specs::DayAnswers::is_month))]
 fn is_month(index: u32) -> bool
     ensures { result ≡ is_month index }
 {
-    if index < FIRST_MONTH {
-        return false;
-    }
-    index <= END_MONTH
+    (FIRST_MONTH..=END_MONTH).contains(&index)
 }
 
 // The first day of the month with an index.
-pub fn first_day(month: u32) -> MaybeDay
+pub fn first_day(month: u32) -> Option<Day>
     ensures { result ≡ first_day month }
 {
     if !is_month(month) {
-        return MaybeDay::NoDay;
+        return None;
     }
-    MaybeDay::Known(month_starts::start(month - FIRST_MONTH))
+    Some(month_starts::start(month - FIRST_MONTH))
 }
 
 // The last day of the month with an index.
-pub fn last_day(month: u32) -> MaybeDay
+pub fn last_day(month: u32) -> Option<Day>
     ensures { result ≡ last_day month }
 {
     if !is_month(month) {
-        return MaybeDay::NoDay;
+        return None;
     }
     // The table ends with the start of January 2100, which has 31 days.
     if month == END_MONTH {
-        return MaybeDay::Known(Day(LAST_DAY + 31));
+        return Some(Day(LAST_DAY + 31));
     }
-    MaybeDay::Known(Day(month_starts::start(month + 1 - FIRST_MONTH).0 - 1))
+    Some(Day(month_starts::start(month + 1 - FIRST_MONTH).0 - 1))
 }

@@ -1,3 +1,2 @@
 -- The table of month starts.
 pub mod MonthStarts
-pub mod Private

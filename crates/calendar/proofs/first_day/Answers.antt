@@ -1,9 +1,7 @@
 -- `calendar::first_day` meets its contract: the test of the index, and the month's entry in the table.
 -- Assumes nothing.
-use Prim.Native.Nat.{◌≤◌}
 use mathlib.Core.Path.{sym, ◌∙◌}
 use native.Mathlib.Omega.{arith}
-use Rattle.calendar.specs.Calendar.{first_month, end_month}
 use Rattle.calendar.specs.DayAnswers.{first_day}
 use Rattle.calendar.proofs.TableRule.{table-start}
 use Rattle.calendar.proofs.MonthTables.{month-bounds, first-is}
@@ -15,12 +13,9 @@ returns-then-not-is_month c = simp (sym c.is_month.ensures ∙ c.if-not-is_month
 
 pub returns : goal.returns
 returns c =
-    let bounds : let i = c.args.month in (first_month ≤ i) × (i ≤ end_month) = month-bounds c.args.month (sym c.is_month.ensures ∙ c.if-not-is_month.false) in
     let i = c.args.month in
-    let b = bounds in
+    let b = month-bounds c.is_month.ensures c.if-not-is_month.false in
     first-is i c.start.result.0 (omega arith) (omega arith) (c.start.ensures ∙ table-start i _ (omega arith) (omega arith))
 
 pub overflow_sub-month : goal.overflow_sub-month
-overflow_sub-month c =
-    let bounds : let i = c.args.month in (first_month ≤ i) × (i ≤ end_month) = month-bounds c.args.month (sym c.is_month.ensures ∙ c.if-not-is_month.false) in
-    omega (arith, bounds)
+overflow_sub-month c = omega (arith, month-bounds c.is_month.ensures c.if-not-is_month.false)

@@ -1,7 +1,7 @@
 -- `calendar::last_day` meets its contract: the tests of the index, the day before the next month's entry in the table, and for January 2100, the last
 -- entry, the month's length.
 -- Assumes nothing.
-use Prim.Native.Nat.{ℕ, ◌+◌, ◌≤◌, ◌<◌}
+use Prim.Native.Nat.{ℕ, ◌+◌, ◌≤◌}
 use mathlib.Core.Path.{◌≡◌, sym, ap, ◌∙◌}
 use native.Mathlib.Omega.{arith}
 use Rattle.calendar.specs.Calendar.{index_length, month_start, first_month, end_month}
@@ -13,8 +13,9 @@ use Rattle.calendar.proofs.MonthTables.{month-bounds, last-is, end-length}
 use Rattle.calendar.proofs.last_day.Goals as goal
 
 -- entry k is the start of the month after i, on day n
-next : (i k n : ℕ) → n ≡ entry k → first_month + k ≡ i + 1 → first_month ≤ i → i < end_month → n ≡ month_start i + index_length i
-next i k n f e h l = f ∙ table-start (i + 1) k e (omega arith) ∙ month-step i h
+next : (i k n : ℕ) → n ≡ entry k → first_month + k ≡ i + 1 → (first_month ≤ i) × (i ≤ end_month) → (i ≡ end_month → ⊥)
+    → n ≡ month_start i + index_length i
+next i k n f e b l = f ∙ table-start (i + 1) k e (omega arith) ∙ month-step i b.0
 
 pub returns-then-not-is_month : goal.returns-then-not-is_month
 unfolding last_day
@@ -28,29 +29,18 @@ returns-then-month-eq-END_MONTH c =
 
 pub overflow_sub-result : goal.overflow_sub-result
 overflow_sub-result c =
-    let bounds : let i = c.args.month in (first_month ≤ i) × (i ≤ end_month) = month-bounds c.args.month (sym c.is_month.ensures ∙ c.if-not-is_month.false) in
-    let index : ℕ = c.args.month in
-    let starts : c.start.result.0 ≡ month_start index + index_length index = let f = c.if-month-eq-END_MONTH.false in
-    let b = bounds in
-    next index _ _ c.start.ensures (omega arith) (omega arith) (omega arith) in
-    omega (arith, starts, index-length-low index)
+    let b = month-bounds c.is_month.ensures c.if-not-is_month.false in
+    omega (arith, next c.args.month _ _ c.start.ensures (omega arith) b c.if-month-eq-END_MONTH.false, index-length-low c.args.month)
 
 pub returns : goal.returns
 returns c =
-    let bounds : let i = c.args.month in (first_month ≤ i) × (i ≤ end_month) = month-bounds c.args.month (sym c.is_month.ensures ∙ c.if-not-is_month.false) in
-    let index : ℕ = c.args.month in
-    let starts : c.start.result.0 ≡ month_start index + index_length index = let f = c.if-month-eq-END_MONTH.false in
-    let b = bounds in
-    next index _ _ c.start.ensures (omega arith) (omega arith) (omega arith) in
-    let b = bounds in
-    last-is index _ (omega arith) (omega arith) (omega (arith, starts, index-length-low index))
+    let i = c.args.month in
+    let b = month-bounds c.is_month.ensures c.if-not-is_month.false in
+    last-is i _ (omega arith) (omega arith)
+    (omega (arith, next i _ _ c.start.ensures (omega arith) b c.if-month-eq-END_MONTH.false, index-length-low i))
 
 pub overflow_add-month : goal.overflow_add-month
-overflow_add-month c =
-    let bounds : let i = c.args.month in (first_month ≤ i) × (i ≤ end_month) = month-bounds c.args.month (sym c.is_month.ensures ∙ c.if-not-is_month.false) in
-    omega (arith, bounds)
+overflow_add-month c = omega (arith, month-bounds c.is_month.ensures c.if-not-is_month.false)
 
 pub overflow_sub-month : goal.overflow_sub-month
-overflow_sub-month c =
-    let bounds : let i = c.args.month in (first_month ≤ i) × (i ≤ end_month) = month-bounds c.args.month (sym c.is_month.ensures ∙ c.if-not-is_month.false) in
-    omega (arith, bounds)
+overflow_sub-month c = omega (arith, month-bounds c.is_month.ensures c.if-not-is_month.false)
