@@ -19,8 +19,6 @@ use Rattle.basics.proofs.Integers.{pick-times}
 use Rattle.basics.proofs.Checks.{check-passed, then-passed}
 use Rattle.calendar.specs.Calendar.{last_day_number}
 use Rattle.claim_months.specs.declared.Claim.{Claim}
-use Rattle.claim_months.specs.declared.Listed.{Listed}
-use Rattle.claim_months.specs.declared.Listed.TheVariants.{Months}
 use Rattle.claim_months.specs.Claim.{category, claim_check}
 use Rattle.claim_months.specs.Exposure.{closed_in, MonthRecord, thirtieths, month_records, weighted, closings}
 use Rattle.claim_months.specs.Windows.{window_sound, dates_window, Parts, EveryPart}
@@ -33,6 +31,7 @@ use Rattle.claim_months.proofs.Picked.{picked}
 use Rattle.claim_months.proofs.Closing.{category-known, closings-value}
 use Rattle.claim_months.proofs.Ranges.{Every, Rising, durations-rise, signed_range, ClosingLast, closing-last}
 use Rattle.claim_months.proofs.Adds.{parts-weighted, ClosedInPart, closing-part, no-closing-part}
+use Rattle.std.specs.Prelude.{Ok, Result}
 
 -- ---- the rows of any records
 
@@ -94,7 +93,7 @@ module _ (c : Claim) (l : ListingCall) where
   pub record Passed : Type 0 where
     pub claim : Sound c
     pub window : window_sound (from l) (to l) ≡ true
-    pub answer : answer_of c l ≡ Months (length records)
+    pub answer : answer_of c l ≡ Ok (length records)
     pub list : list_after l.first l.last c l.lent ≡ rows records ++ drop (6 * length records) l.lent
 
   abbrev checks : ℕ
@@ -122,7 +121,7 @@ module _ (c : Claim) (l : ListingCall) where
   unfolding listing_check months_in ◌then◌
   room w k r =
       let p = passed (rw (w, k, le-leb (6 * length (listed_records l.first l.last c)) (length l.lent))) in
-      p.answer ∙ sym (ap (λ (x : Listed). Months (months_in x)) p.answer)
+      p.answer ∙ sym (ap (λ (x : Result ℕ ℕ). Ok (months_in x)) p.answer)
 
   module _ (h : Answered c l) where
     known : Passed

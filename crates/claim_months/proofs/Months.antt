@@ -51,7 +51,7 @@ module _ (c : Claim) (d : is_date c.bcd ≡ true) where
       by (leb c.bcd.day 26) (λ _. start_in c i < month_start i + index_length i) (λ q. omega (tests, start-early i (omega tests)))
       (λ q. omega (tests, start-late i (omega tests)))
 
-  start-step : (i : ℕ) → first_month ≤ i → (start_in c i + 28 ≤ start_in c (i + 1)) × (start_in c (i + 1) ≤ start_in c i + 31)
+  pub start-step : (i : ℕ) → first_month ≤ i → (start_in c i + 28 ≤ start_in c (i + 1)) × (start_in c (i + 1) ≤ start_in c i + 31)
   start-step i h =
       let r = date-bounds c.bcd d in
       let l = length_high c.bcd.year c.bcd.month in

@@ -12,7 +12,6 @@ use Rattle.basics.proofs.Checks.{check-passed, then-passed}
 use Rattle.calendar.specs.Calendar.{last_day_number}
 use Rattle.claim_months.specs.declared.Claim.{Claim}
 use Rattle.claim_months.specs.declared.Span.{Span}
-use Rattle.claim_months.specs.declared.MaybeSpan.TheVariants.{Spanned, Refused}
 use Rattle.claim_months.specs.Claim.{claim_check}
 use Rattle.claim_months.specs.Windows.{window_sound, window_check}
 use Rattle.claim_months.specs.Exposure.{month_records}
@@ -20,6 +19,7 @@ use Rattle.claim_months.specs.Span.{span_of, exposure_check, span_in, SpanBounds
 use Rattle.claim_months.proofs.Sound.{Sound, sound}
 use Rattle.claim_months.proofs.Parts.{window-bounds}
 use Rattle.claim_months.proofs.Spans.{span-bounds}
+use Rattle.std.specs.Prelude.{Err, Ok}
 
 -- the window is checked before the claim
 pub exposure-checks : (c : Claim) (b e : ℕ) → exposure_check c b e ≡ (window_check b e then claim_check c)
@@ -39,22 +39,22 @@ exposed c b e q =
     (sound c p.1, (window-bounds b e (check-passed (window_sound b e) 1 (omega tests) p.0)).last)
 
 -- a span that is answered is that of the month records of a claim that passed; a number that is answered is that of the check that failed
-pub spanned : (c : Claim) (b e : ℕ) (sp : Span) → Spanned sp ≡ span_in c b e → (exposure_check c b e ≡ 0) × (sp ≡ span_of (month_records c b e))
+pub spanned : (c : Claim) (b e : ℕ) (sp : Span) → Ok sp ≡ span_in c b e → (exposure_check c b e ≡ 0) × (sp ≡ span_of (month_records c b e))
 unfolding span_in
 spanned c b e sp =
     by (eqb (exposure_check c b e) 0)
-    (λ y. Spanned sp ≡ pick y (Spanned (span_of (month_records c b e))) (Refused (exposure_check c b e)) → (exposure_check c b e ≡ 0) × (sp ≡ span_of (month_records c b e)))
+    (λ y. Ok sp ≡ pick y (Ok (span_of (month_records c b e))) (Err (exposure_check c b e)) → (exposure_check c b e ≡ 0) × (sp ≡ span_of (month_records c b e)))
     (λ q m. (eqb-true (exposure_check c b e) 0 q, cc)) (λ q m. let z : ◌≡◌ {A = ℕ} 0 1 = cc in absurd (omega tests))
 
-pub span-refused : (c : Claim) (b e n : ℕ) → Refused n ≡ span_in c b e → (exposure_check c b e ≡ 0 → ⊥) × (n ≡ exposure_check c b e)
+pub span-refused : (c : Claim) (b e n : ℕ) → Err n ≡ span_in c b e → (exposure_check c b e ≡ 0 → ⊥) × (n ≡ exposure_check c b e)
 unfolding span_in
 span-refused c b e n =
     by (eqb (exposure_check c b e) 0)
-    (λ y. Refused n ≡ pick y (Spanned (span_of (month_records c b e))) (Refused (exposure_check c b e)) → (exposure_check c b e ≡ 0 → ⊥) × (n ≡ exposure_check c b e))
+    (λ y. Err n ≡ pick y (Ok (span_of (month_records c b e))) (Err (exposure_check c b e)) → (exposure_check c b e ≡ 0 → ⊥) × (n ≡ exposure_check c b e))
     (λ q m. let z : ◌≡◌ {A = ℕ} 0 1 = cc in absurd (omega tests)) (λ q m. (eqb-false (exposure_check c b e) 0 q, cc))
 
 -- the ranges of a span that is answered
-pub spanned-bounds : (c : Claim) (b e : ℕ) (sp : Span) → Spanned sp ≡ span_in c b e → SpanBounds sp
+pub spanned-bounds : (c : Claim) (b e : ℕ) (sp : Span) → Ok sp ≡ span_in c b e → SpanBounds sp
 spanned-bounds c b e sp m =
     let x = spanned c b e sp m in
     let y = exposed c b e x.0 in

@@ -18,7 +18,7 @@ use Rattle.claim_months.specs.Exposure.{exposed_from, exposed_to, month_u, closi
 use Rattle.claim_months.specs.Private.{HoldsDay, Begins}
 use Rattle.claim_months.specs.Span.{span_of, exposure_check}
 use Rattle.claim_months.proofs.Sound.{Sound}
-use Rattle.claim_months.proofs.Months.{next-starts, last-next, months-end}
+use Rattle.claim_months.proofs.Months.{last-next, months-end}
 use Rattle.claim_months.proofs.Parts.{WindowBounds, window-bounds}
 use Rattle.claim_months.proofs.Spans.{span_run, Runs, runs-records, to-window, months-ordered}
 
@@ -38,13 +38,6 @@ pub record SpanEnds (c : Claim) (b e f l : ℕ) (x : BeginMonth) (y : ClaimMonth
   pub ordered : f ≤ l
   pub begin : Begins c b f x
   pub end : HoldsDay c l y
-
--- a claim month has 31 days or fewer
-pub month-days : (c : Claim) → Sound c → (d : ℕ) (x : ClaimMonth) → HoldsDay c d x → x.last.0 ≤ x.first.0 + 30
-month-days c ok d x h =
-    let n = next-starts c ok.bcd-date (1 + x.place) (omega tests) in
-    let l = last-next c ok.bcd-date (1 + x.place) (omega tests) in
-    omega (tests, h.starts, h.ends)
 
 module _ (c : Claim) (b e f l : ℕ) (x : BeginMonth) (y : ClaimMonth) (r : SpanEnds c b e f l x y) where
   pub places-ordered : x.place ≤ y.place

@@ -1,11 +1,9 @@
 -- Document 02, request No. 12: additivity for each duration, of what stands in the lent lists after the listing calls.
-use Rattle.std.specs.Prelude.{ℕ, zero, suc, ◌*◌, ◌≤◌, ◌≡◌, Bool, true, false, List, [], ◌∷◌, ◌++◌, ◌⊎◌, eqb, length, get_or, drop, ℤ, pos, negsuc, ◌+ℤ◌, ◌≤ℤ◌}
+use Rattle.std.specs.Prelude.{ℕ, zero, suc, ◌*◌, ◌≤◌, ◌≡◌, Bool, true, false, List, [], ◌∷◌, ◌++◌, ◌⊎◌, eqb, length, get_or, drop, ℤ, pos, negsuc, ◌+ℤ◌, ◌≤ℤ◌, Err, Ok, Result}
 use Rattle.basics.specs.Pick.{pick}
 use Rattle.calendar.specs.declared.Date.{Date}
 use Rattle.claim_months.specs.declared.Claim.{Claim}
 use Rattle.claim_months.specs.declared.Window.{Window}
-use Rattle.claim_months.specs.declared.Listed.{Listed}
-use Rattle.claim_months.specs.declared.Listed.TheVariants.{Months, Refused}
 use Rattle.claim_months.specs.Claim.{category, claim_check}
 use Rattle.claim_months.specs.Exposure.{closed_in}
 use Rattle.claim_months.specs.Windows.{dates_window, between, Parts, total, EveryPart, ExactlyOnePart}
@@ -37,16 +35,16 @@ abbrev pub call_window : ListingCall → Window
 call_window l = between l.first l.last
 
 -- its answer, and the number of records answered
-abbrev pub answer_of : Claim → ListingCall → Listed
+abbrev pub answer_of : Claim → ListingCall → Result ℕ ℕ
 answer_of c l = listing_of l.first l.last c (length l.lent)
 
-unfoldable pub months_in : Listed → ℕ
-months_in (Months n) = n
-months_in (Refused x) = 0
+unfoldable pub months_in : Result ℕ ℕ → ℕ
+months_in (Ok n) = n
+months_in (Err x) = 0
 
 -- the call answers a number of records, so it is not refused
 abbrev pub Answered : Claim → ListingCall → Type 0
-Answered c l = answer_of c l ≡ Months (months_in (answer_of c l))
+Answered c l = answer_of c l ≡ Ok (months_in (answer_of c l))
 
 -- the thirtieths at duration d, and the categories shown, in its list at exit
 unfoldable pub listed_thirtieths : Claim → ℕ → ListingCall → ℤ

@@ -1,12 +1,10 @@
 -- Document 01, Months of exposure: the listing, six signed numbers per month record.
-use Rattle.std.specs.Prelude.{ℕ, ◌*◌, List, [], ◌∷◌, ◌++◌, length, drop, leb, eqb, ℤ, pos}
+use Rattle.std.specs.Prelude.{ℕ, ◌*◌, List, [], ◌∷◌, ◌++◌, length, drop, leb, eqb, ℤ, pos, Err, Ok, Result}
 use Rattle.calendar.specs.declared.Date.{Date}
 use Rattle.basics.specs.Pick.{pick}
 use Rattle.basics.specs.Checks.{check, ◌then◌, refuse_window, refuse_short_list}
 use Rattle.calendar.specs.Calendar.{day_number, month_of}
 use Rattle.claim_months.specs.declared.Claim.{Claim}
-use Rattle.claim_months.specs.declared.Listed.{Listed}
-use Rattle.claim_months.specs.declared.Listed.TheVariants.{Months, Refused}
 use Rattle.claim_months.specs.Claim.{claim_check}
 use Rattle.claim_months.specs.Windows.{dates_window}
 use Rattle.claim_months.specs.Exposure.{MonthRecord, thirtieths, month_records}
@@ -31,9 +29,9 @@ listing_check b e c n =
     then check (leb (6 * length (listed_records b e c)) n) refuse_short_list
 
 -- the answer of a listing into a list of n numbers: the number of records, or the number refused
-unfoldable pub listing_of : Date → Date → Claim → ℕ → Listed
+unfoldable pub listing_of : Date → Date → Claim → ℕ → Result ℕ ℕ
 listing_of b e c n =
-    pick (eqb (listing_check b e c n) 0) (Months (length (listed_records b e c))) (Refused (listing_check b e c n))
+    pick (eqb (listing_check b e c n) 0) (Ok (length (listed_records b e c))) (Err (listing_check b e c n))
 
 -- the lent list afterwards: the records, and past them what stood there; untouched by a refusal
 unfoldable pub list_after : Date → Date → Claim → List ℤ → List ℤ

@@ -1,26 +1,26 @@
 -- Definitions that only the contracts of private functions cite: the checked value of a claim, what is worked out from it, and the rows of a listing.
-use Rattle.std.specs.Prelude.{ℕ, ◌+◌, ◌-◌, ◌*◌, ◌≤◌, ◌<◌, min, ◌≡◌, Bool, ◌&&◌, ◌||◌, List, ◌++◌, leb, ltb, eqb, ℤ, length, drop}
+use Rattle.std.specs.Prelude.{ℕ, Bool, true, false, ◌+◌, ◌-◌, ◌*◌, ◌≤◌, ◌<◌, min, ◌≡◌, ◌&&◌, ◌||◌, List, ◌++◌, leb, ltb, eqb, ℤ, length, drop, Err, Ok, Result, Option, Some, None}
 use Rattle.basics.specs.declared.Day.{Day}
 use Rattle.basics.specs.Pick.{pick}
 use Rattle.basics.specs.Checks.{refuse_short_list}
 use Rattle.calendar.specs.declared.Date.{Date}
-use Rattle.calendar.specs.declared.MaybeDay.{MaybeDay}
-use Rattle.calendar.specs.declared.MaybeDay.TheVariants.{Known, NoDay}
 use Rattle.calendar.specs.Calendar.{day_number, month_index, month_length, month_start, index_length, month_of, last_day_number}
+use Rattle.calendar.specs.DayAnswers.{known}
 use Rattle.claim_months.specs.declared.BeginMonth.{BeginMonth}
 use Rattle.claim_months.specs.declared.CheckedClaim.{CheckedClaim}
 use Rattle.claim_months.specs.declared.Claim.{Claim}
 use Rattle.claim_months.specs.declared.ClaimDays.{ClaimDays}
 use Rattle.claim_months.specs.declared.ClaimMonth.{ClaimMonth}
+use Rattle.claim_months.specs.declared.ClaimClosing.{ClaimClosing}
 use Rattle.claim_months.specs.declared.ExposedMonths.{ExposedMonths}
-use Rattle.claim_months.specs.declared.Listed.{Listed}
-use Rattle.claim_months.specs.declared.Listed.TheVariants.{Months, Refused}
 use Rattle.claim_months.specs.declared.MonthDay.{MonthDay}
 use Rattle.claim_months.specs.declared.MonthWindow.{MonthWindow}
 use Rattle.claim_months.specs.declared.Row.{Row}
 use Rattle.claim_months.specs.declared.Span.{Span}
+use Rattle.claim_months.specs.declared.Starts.{Starts}
+use Rattle.claim_months.specs.declared.Starts.TheVariants.{After, Before}
 use Rattle.claim_months.specs.declared.Window.{Window}
-use Rattle.claim_months.specs.Claim.{is_missing, is_closed, first_duration, category, claim_check}
+use Rattle.claim_months.specs.Claim.{within_days, is_missing, is_closed, first_duration, category, claim_check}
 use Rattle.claim_months.specs.ClaimMonths.{month_first, month_last}
 use Rattle.claim_months.specs.Exposure.{month_b, MonthRecord, month_records}
 use Rattle.claim_months.specs.Span.{span_of, span_u, span_b}
@@ -31,11 +31,6 @@ use Rattle.claim_months.specs.Listing.{rows}
 -- the number n as a day
 abbrev pub as_day : ℕ → Day
 as_day n = record { 0 = n }
-
--- the day that a look-up found, or day 0
-abbrev pub day_in : MaybeDay → Day
-day_in (Known d) = d
-day_in NoDay = as_day 0
 
 -- a date's day and month
 abbrev pub month_day : Date → MonthDay
@@ -61,32 +56,49 @@ pub record SoundWindow (w : MonthWindow) : Type 0 where
 
 -- ---- the checked value of a claim
 
--- the day numbers of a claim's dates: of the termination only if it is closed, of the maximum only if it is known
+-- the day of a claim's termination, if it is closed, and of its maximum, if it is known
+abbrev pub termination_of : Claim → Option Day
+termination_of c = pick (is_closed c) (known (day_number c.termination)) None
+
+abbrev pub maximum_of : Claim → Option Day
+maximum_of c = pick (is_missing c.maximum) None (known (day_number c.maximum))
+
+-- the day numbers of a claim's dates
 abbrev pub days_of : Claim → ClaimDays
 days_of c =
     record {
       disability = as_day (day_number c.disability);
       bcd = as_day (day_number c.bcd);
-      termination = as_day (pick (is_closed c) (day_number c.termination) 0);
-      maximum = as_day (pick (is_missing c.maximum) 0 (day_number c.maximum));
+      termination = termination_of c;
+      maximum = maximum_of c;
     }
 
--- the days from the month's first day to a BCD or, from its day 27 on, to the month's last day
-unfoldable pub offset_of : Date → ℕ
-offset_of d = pick (leb 27 d.day) (month_length d.year d.month - d.day) (d.day - 1)
+-- a day is 45 days or less before or after one that may be there
+abbrev pub near_by : Day → Option Day → Bool
+near_by t None = false
+near_by t (Some m) = within_days 45 t.0 m.0
 
--- of a claim that passes its checks. An open one's termination is missing, and a missing date gives zeros
+-- a day that may be there is not before another one
+abbrev pub none_before : Day → Option Day → Bool
+none_before b None = true
+none_before b (Some t) = leb b.0 t.0
+
+-- the days from the month's first day to a BCD or, from its day 27 on, to the month's last day
+unfoldable pub starts_of : Date → Starts
+starts_of d = pick (leb 27 d.day) (Before (month_length d.year d.month - d.day)) (After (d.day - 1))
+
+-- how a closed claim was closed
+abbrev pub closing_at : Claim → ClaimClosing
+closing_at c = record { termination = month_day c.termination; late = leb 27 c.termination.day; category = category c }
+
+-- of a claim that passes its checks
 abbrev pub checked_of : Claim → CheckedClaim
 checked_of c =
     record {
       bcd = month_day c.bcd;
-      backward = leb 27 c.bcd.day;
-      offset = offset_of c.bcd;
+      starts = starts_of c.bcd;
       first = record { 0 = first_duration c };
-      closed = is_closed c;
-      termination = month_day c.termination;
-      late = leb 27 c.termination.day;
-      category = pick (is_closed c) (category c) 0;
+      closing = pick (is_closed c) (Some (closing_at c)) None;
     }
 
 -- k is the checked value of the claim c
@@ -102,12 +114,17 @@ pub record OfClaim (k : CheckedClaim) : Type 0 where
 -- ---- what is worked out from it, in the words of the definitions on a claim
 
 -- the first day of the claim month that starts in calendar month i
-unfoldable pub start_of : CheckedClaim → ℕ → ℕ
-start_of k i = pick k.backward (month_start i + (index_length i - 1) - k.offset) (month_start i + k.offset)
+unfoldable pub start_at : Starts → ℕ → ℕ
+start_at (After n) i = month_start i + n
+start_at (Before n) i = month_start i + (index_length i - 1) - n
 
--- closed in the window b..e
-unfoldable pub is_closed_of : CheckedClaim → ℕ → ℕ → Bool
-is_closed_of k b e = k.closed && leb b k.termination.day.0 && leb k.termination.day.0 e
+abbrev pub start_of : CheckedClaim → ℕ → ℕ
+start_of k i = start_at k.starts i
+
+-- a closing in the window b..e
+unfoldable pub closing_within : Option ClaimClosing → ℕ → ℕ → Option ClaimClosing
+closing_within None b e = None
+closing_within (Some x) b e = pick (leb b x.termination.day.0 && leb x.termination.day.0 e) (Some x) None
 
 -- the later of two days
 unfoldable pub later_of : MonthDay → MonthDay → MonthDay
@@ -117,22 +134,33 @@ later_of x y = pick (ltb x.day.0 y.day.0) y x
 abbrev pub from_of : CheckedClaim → MonthDay → MonthDay
 from_of k first = later_of k.bcd first
 
-unfoldable pub to_of : CheckedClaim → MonthDay → MonthDay
-to_of k last = pick (k.closed && ltb k.termination.day.0 last.day.0) k.termination last
+unfoldable pub to_at : Option ClaimClosing → MonthDay → MonthDay
+to_at None last = last
+to_at (Some x) last = pick (ltb x.termination.day.0 last.day.0) x.termination last
+
+abbrev pub to_of : CheckedClaim → MonthDay → MonthDay
+to_of k last = to_at k.closing last
 
 -- U in the closing month s..p
-unfoldable pub closing_of : CheckedClaim → ℕ → ℕ → ℕ
-closing_of k s p =
-    let t = k.termination.day.0 in
-    pick (eqb k.category 1 || eqb k.category 2) 30 (pick k.late (30 - (p - t)) (min 30 (t - s + 1)))
+unfoldable pub closing_of : ClaimClosing → ℕ → ℕ → ℕ
+closing_of x s p =
+    let t = x.termination.day.0 in
+    pick (eqb x.category 1 || eqb x.category 2) 30 (pick x.late (30 - (p - t)) (min 30 (t - s + 1)))
 
--- U and category of the month s..p that holds l
-unfoldable pub last_u_of : CheckedClaim → MonthWindow → ℕ → ℕ → ℕ
-last_u_of k w s p =
-    pick (is_closed_of k w.first.day.0 w.last.day.0) (closing_of k s p) (30 - (p - (to_of k w.last).day.0))
+-- U and category of the month s..p that holds l: those of a closing in the window or, with none, 30 − (p − l) and 0
+unfoldable pub u_at : Option ClaimClosing → ℕ → ℕ → ℕ → ℕ
+u_at None l s p = 30 - (p - l)
+u_at (Some x) l s p = closing_of x s p
 
-unfoldable pub last_category_of : CheckedClaim → MonthWindow → ℕ
-last_category_of k w = pick (is_closed_of k w.first.day.0 w.last.day.0) k.category 0
+abbrev pub last_u_of : CheckedClaim → MonthWindow → ℕ → ℕ → ℕ
+last_u_of k w s p = u_at (closing_within k.closing w.first.day.0 w.last.day.0) (to_of k w.last).day.0 s p
+
+unfoldable pub category_at : Option ClaimClosing → ℕ
+category_at None = 0
+category_at (Some x) = x.category
+
+abbrev pub last_category_of : CheckedClaim → MonthWindow → ℕ
+last_category_of k w = category_at (closing_within k.closing w.first.day.0 w.last.day.0)
 
 -- the claim month that holds a day: it is claim month place + 1
 pub record HoldsDay (c : Claim) (day : ℕ) (r : ClaimMonth) : Type 0 where
@@ -212,9 +240,9 @@ RowsFor k w old new =
     (c : Claim) → Stands c k → new ≡ rows (records_in c w) ++ drop (6 * length (records_in c w)) old
 
 -- the answer and the lent list afterwards: the records, or 10 if there is no room for them
-pub record ListedAs (rs : List MonthRecord) (old new : List ℤ) (r : Listed) : Type 0 where
-  pub answer : r ≡ pick (leb (6 * length rs) (length old)) (Months (length rs)) (Refused refuse_short_list)
+pub record ListedAs (rs : List MonthRecord) (old new : List ℤ) (r : Result ℕ ℕ) : Type 0 where
+  pub answer : r ≡ pick (leb (6 * length rs) (length old)) (Ok (length rs)) (Err refuse_short_list)
   pub list : new ≡ pick (leb (6 * length rs) (length old)) (rows rs ++ drop (6 * length rs) old) old
 
-abbrev pub ListedFor : CheckedClaim → MonthWindow → List ℤ → List ℤ → Listed → Type 0
+abbrev pub ListedFor : CheckedClaim → MonthWindow → List ℤ → List ℤ → Result ℕ ℕ → Type 0
 ListedFor k w old new r = (c : Claim) → Stands c k → ListedAs (records_in c w) old new r

@@ -1,12 +1,10 @@
 -- What the span of a claim's month records is, and what the calls of this layer answer.
-use Rattle.std.specs.Prelude.{ℕ, ◌+◌, ◌-◌, ◌≤◌, ◌<◌, ◌≡◌, List, [], ◌∷◌, length, eqb, ℤ, pos, ◌-ℤ◌, ◌*ℤ◌}
+use Rattle.std.specs.Prelude.{ℕ, ◌+◌, ◌-◌, ◌≤◌, ◌<◌, ◌≡◌, List, [], ◌∷◌, length, eqb, ℤ, pos, ◌-ℤ◌, ◌*ℤ◌, Err, Ok, Result}
 use Rattle.std.proofs.Math.IntN.{sub_ℕ}
 use Rattle.basics.specs.Pick.{pick}
 use Rattle.basics.specs.Checks.{◌then◌}
 use Rattle.claim_months.specs.declared.Claim.{Claim}
 use Rattle.claim_months.specs.declared.Span.{Span}
-use Rattle.claim_months.specs.declared.MaybeSpan.{MaybeSpan}
-use Rattle.claim_months.specs.declared.MaybeSpan.TheVariants.{Spanned, Refused}
 use Rattle.claim_months.specs.Claim.{claim_check}
 use Rattle.claim_months.specs.Windows.{window_check}
 use Rattle.claim_months.specs.Exposure.{MonthRecord, month_records}
@@ -74,6 +72,6 @@ unfoldable pub exposure_check : Claim → ℕ → ℕ → ℕ
 exposure_check c b e = window_check b e then claim_check c
 
 -- the span of the claim's month records in the window from day b to day e, or the number refused
-unfoldable pub span_in : Claim → ℕ → ℕ → MaybeSpan
+unfoldable pub span_in : Claim → ℕ → ℕ → Result Span ℕ
 span_in c b e =
-    pick (eqb (exposure_check c b e) 0) (Spanned (span_of (month_records c b e))) (Refused (exposure_check c b e))
+    pick (eqb (exposure_check c b e) 0) (Ok (span_of (month_records c b e))) (Err (exposure_check c b e))

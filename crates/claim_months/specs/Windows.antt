@@ -1,12 +1,10 @@
 -- Document 01, Months of exposure and Study: a window, check 1, and the parts of a window (demand 3).
-use Rattle.std.specs.Prelude.{ℕ, ◌+◌, ◌≡◌, Bool, ◌&&◌, List, [], ◌∷◌, ◌⊎◌, leb}
+use Rattle.std.specs.Prelude.{ℕ, ◌+◌, ◌≡◌, Bool, ◌&&◌, List, [], ◌∷◌, ◌⊎◌, leb, Err, Ok, Result}
 use Rattle.basics.specs.Pick.{pick}
 use Rattle.basics.specs.Checks.{check, refuse_window}
 use Rattle.calendar.specs.declared.Date.{Date}
 use Rattle.calendar.specs.Calendar.{is_date, day_number, last_day_number}
 use Rattle.claim_months.specs.declared.Window.{Window}
-use Rattle.claim_months.specs.declared.MaybeWindow.{MaybeWindow}
-use Rattle.claim_months.specs.declared.MaybeWindow.TheVariants.{Known, Refused}
 
 -- 1, window: b or e no date, or e < b. Here b and e are day numbers, of which a date has one up to the last
 unfoldable pub window_sound : ℕ → ℕ → Bool
@@ -24,8 +22,8 @@ abbrev pub between : Date → Date → Window
 between b e = record { first = record { 0 = day_number b }; last = record { 0 = day_number e } }
 
 -- the window of two dates, or the number refused
-unfoldable pub window_in : Date → Date → MaybeWindow
-window_in b e = pick (dates_window b e) (Known (between b e)) (Refused refuse_window)
+unfoldable pub window_in : Date → Date → Result Window ℕ
+window_in b e = pick (dates_window b e) (Ok (between b e)) (Err refuse_window)
 
 -- The parts w, ws of the days b..e: the first starts on b, each next one on the day after the last one's end, and the last ends on e.
 -- A single part is allowed. `ok` is what each of them must be, as a window that opening accepts. A part may carry more than its window: `win` reads it off

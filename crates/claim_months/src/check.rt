@@ -1,93 +1,71 @@
 // The checks 2 to 5 of a claim, with 16 between 4 and 5. Each of its dates becomes a day number once.
-ghost use Rattle.std.specs.Prelude.{◌≡◌, true, not, ◌&&◌, ◌||◌, ◌-◌, ◌≤◌, leb, eqb};
+ghost use Rattle.std.specs.Prelude.{◌≡◌, not, ◌&&◌, ◌||◌, ◌-◌, ◌≤◌, leb, eqb};
 ghost use Rattle.basics.specs.Pick.{pick};
-ghost use Rattle.calendar.specs.DayAnswers.{known, day_of};
+ghost use Rattle.basics.specs.Refused.{number_refused, numbered};
+ghost use Rattle.calendar.specs.Calendar.{is_date, day_number};
+ghost use Rattle.calendar.specs.DayAnswers.{known};
 ghost use Rattle.claim_months.specs.Claim.{is_missing, dates_sound, status_sound, claim_check};
-ghost use Rattle.claim_months.specs.Private.{days_of, checked_of};
+ghost use Rattle.claim_months.specs.Private.{days_of, none_before, checked_of};
 
+use crate::dated::DatedClaim;
 use crate::sound_claim::sound_claim;
-use crate::{Claim, ClaimDays, MaybeChecked, MaybeDays};
+use crate::{CheckedClaim, Claim, ClaimDays, NO_DATE};
 use basics::limits::MOST_BENEFIT;
-use basics::refusal;
-use calendar::{Date, Day, MaybeDay};
+use basics::refusal::Refusal;
+use calendar::{Date, Day};
 
 // Whether a date is missing: year, month and day all zero.
-pub(crate) fn is_missing(date: Date) -> bool
+#[tactic(auto, unfolding(crate::specs::Claim::is_missing))]
+fn is_missing(date: Date) -> bool
     ensures { result ≡ is_missing date }
 {
-    if date.year != 0 {
-        return false;
-    }
-    if date.month != 0 {
-        return false;
-    }
-    date.day == 0
+    date == NO_DATE
 }
 
-// The day number of a date that is asked for; day 0 for another.
-fn day_if(asked: bool, date: Date) -> MaybeDay
-    ensures { result ≡ pick asked (day_of date) (known 0) }
+// The day number of a date that is asked for, and none of another; no answer where it is asked for and is no date.
+// Kept: `asked.then(..)` gives these two options the other way round, and to turn them round is no plainer than the `if`.
+#[tactic(auto, unfolding(calendar::specs::DayAnswers::day_of))]
+fn day_if(asked: bool, date: Date) -> Option<Option<Day>>
+    ensures { result ≡ pick (not asked || is_date date) (Some (pick asked (known (day_number date)) None)) None }
 {
     if asked {
-        return calendar::day_number(date);
+        return Some(Some(calendar::day_number(date)?));
     }
-    MaybeDay::Known(Day(0))
+    Some(None)
 }
 
 // Check 2: the day numbers of the claim's dates.
-fn claim_days(claim: Claim) -> MaybeDays
-    ensures { result ≡ pick (dates_sound claim) (MaybeDays.Days (days_of claim)) MaybeDays.NoDays }
+fn claim_days(claim: Claim) -> Option<ClaimDays>
+    ensures { result ≡ pick (dates_sound claim) (Some (days_of claim)) None }
 {
-    let MaybeDay::Known(disability) = calendar::day_number(claim.disability) else {
-        return MaybeDays::NoDays;
-    };
-    let MaybeDay::Known(bcd) = calendar::day_number(claim.bcd) else {
-        return MaybeDays::NoDays;
-    };
-    let MaybeDay::Known(termination) = day_if(claim.status == 1, claim.termination) else {
-        return MaybeDays::NoDays;
-    };
-    let MaybeDay::Known(maximum) = day_if(!is_missing(claim.maximum), claim.maximum) else {
-        return MaybeDays::NoDays;
-    };
-    MaybeDays::Days(ClaimDays {
-        disability,
-        bcd,
-        termination,
-        maximum,
+    Some(ClaimDays {
+        disability: calendar::day_number(claim.disability)?,
+        bcd: calendar::day_number(claim.bcd)?,
+        termination: day_if(claim.status == 1, claim.termination)?,
+        maximum: day_if(!is_missing(claim.maximum), claim.maximum)?,
     })
 }
 
 // Check 3.
+#[tactic(auto, unfolding(crate::specs::Claim::status_sound, crate::specs::Claim::is_closed))]
 fn status_sound(claim: Claim) -> bool
     ensures { result ≡ status_sound claim }
 {
-    if claim.status > 1 {
-        return false;
+    match claim.status {
+        0 => claim.code == 0 && is_missing(claim.termination),
+        1 => (1..=6).contains(&claim.code),
+        _ => false,
     }
-    if claim.status == 1 {
-        if claim.code < 1 {
-            return false;
-        }
-        return claim.code <= 6;
-    }
-    if claim.code != 0 {
-        return false;
-    }
-    is_missing(claim.termination)
 }
 
 // Check 4.
-fn sequence_sound(closed: bool, days: ClaimDays) -> bool
-    ensures { result ≡ (leb days.disability.0 days.bcd.0 && (not closed || leb days.bcd.0 days.termination.0)) }
+fn sequence_sound(days: ClaimDays) -> bool
+    ensures { result ≡ (leb days.disability.0 days.bcd.0 && none_before days.bcd days.termination) }
 {
-    if days.bcd.0 < days.disability.0 {
-        return false;
-    }
-    if closed {
-        return days.bcd.0 <= days.termination.0;
-    }
-    true
+    days.disability <= days.bcd
+        && days
+            .termination
+            .is_none_or(|termination| days.bcd <= termination)
 }
 
 // EP, the elimination period in days.
@@ -98,47 +76,41 @@ pub(crate) fn elimination(days: ClaimDays) -> u32
     days.bcd.0 - days.disability.0
 }
 
-// The number of the first of the checks 2 to 5 and 16 that fails, of a claim that passes check 2, or 0.
-fn days_check(claim: Claim, days: ClaimDays) -> u8
-    requires claim_value { dates_sound claim ≡ true }
-    requires days_value { days ≡ days_of claim }
-    ensures { result ≡ claim_check claim }
+// The first of the checks 2 to 5 and 16 that fails, of a claim that passes check 2.
+fn days_check(dated: DatedClaim) -> Result<(), Refusal>
+    ensures { number_refused result ≡ claim_check dated.claim }
 {
+    let claim = dated.claim;
+    let days = dated.days;
     if !status_sound(claim) {
-        return refusal::STATUS;
+        return Err(Refusal::Status);
     }
-    if !sequence_sound(claim.status == 1, days) {
-        return refusal::SEQUENCE;
+    if !sequence_sound(days) {
+        return Err(Refusal::Sequence);
     }
     if claim.benefit > MOST_BENEFIT {
-        return refusal::BENEFIT;
+        return Err(Refusal::Benefit);
     }
     if elimination(days) < 15 {
-        return refusal::SHORT_ELIMINATION;
+        return Err(Refusal::ShortElimination);
     }
-    0
+    Ok(())
 }
 
-// The claim as a checked value, or the number of the first of the checks 2 to 5 and 16 that fails.
-pub(crate) fn checked(claim: Claim) -> MaybeChecked
-    ensures { result ≡ pick (eqb (claim_check claim) 0) (MaybeChecked.Checked (checked_of claim)) (MaybeChecked.Refused (claim_check claim)) }
+// The claim as a checked value, or the first of the checks 2 to 5 and 16 that fails.
+pub(crate) fn checked(claim: Claim) -> Result<CheckedClaim, Refusal>
+    ensures { numbered result ≡ pick (eqb (claim_check claim) 0) (Ok (checked_of claim)) (Err (claim_check claim)) }
 {
-    let MaybeDays::Days(days) = claim_days(claim) else {
-        return MaybeChecked::Refused(refusal::DATE);
-    };
-    let refused = days_check(claim, days);
-    if refused != 0 {
-        return MaybeChecked::Refused(refused);
-    }
-    MaybeChecked::Checked(sound_claim(claim, days))
+    let days = claim_days(claim).ok_or(Refusal::Date)?;
+    let dated = DatedClaim { claim, days };
+    days_check(dated)?;
+    Ok(sound_claim(dated))
 }
 
-// The number of the first of the checks 2 to 5 and 16 that fails, or 0.
-pub fn check(claim: Claim) -> u8
-    ensures { result ≡ claim_check claim }
+// The first of the checks 2 to 5 and 16 that fails.
+pub fn check(claim: Claim) -> Result<(), Refusal>
+    ensures { number_refused result ≡ claim_check claim }
 {
-    match checked(claim) {
-        MaybeChecked::Checked(_) => 0,
-        MaybeChecked::Refused(refused) => refused,
-    }
+    checked(claim)?;
+    Ok(())
 }

@@ -1,37 +1,41 @@
 // The months of exposure of a claim in a window, as a span.
 ghost use Rattle.std.specs.Prelude.{◌≡◌, [], ◌+◌, ◌≤◌};
+ghost use Rattle.basics.specs.Refused.{numbered};
 ghost use Rattle.claim_months.specs.Exposure.{month_b};
 ghost use Rattle.claim_months.specs.Span.{span_of, span_in};
-ghost use Rattle.claim_months.specs.Private.{is_closed_of, later_of, from_of, to_of, closing_of, last_u_of, last_category_of, Placed, OfClaim, SoundWindow, BeginsFor, no_begin, MonthsFor};
+ghost use Rattle.claim_months.specs.Private.{closing_within, later_of, from_of, to_of, closing_of, last_u_of, last_category_of, Placed, OfClaim, SoundWindow, BeginsFor, no_begin, MonthsFor};
 
 use crate::check::checked;
 use crate::month::claim_month;
 use crate::windows::{is_sound, with_months};
 use crate::{
-    BeginMonth, CheckedClaim, Claim, ClaimMonth, ExposedMonths, MaybeChecked, MaybeSpan, MonthDay,
+    BeginMonth, CheckedClaim, Claim, ClaimClosing, ClaimMonth, ExposedMonths, MonthDay,
     MonthWindow, Span, Thirtieths, Window,
 };
-use basics::{Duration, refusal};
+use basics::Duration;
+use basics::refusal::Refusal;
 use calendar::Day;
 
-// Whether the claim is closed in the window.
-fn closed_in(claim: CheckedClaim, window: MonthWindow) -> bool
-    ensures { result ≡ is_closed_of claim window.first.day.0 window.last.day.0 }
+// Kept: `claim` and `window` stay two parameters: three functions ask one of the window's days alone, and a struct would be made for one call.
+// The claim's closing, if it stands in the window.
+#[tactic(auto, unfolding(crate::specs::Private::closing_within))]
+fn closing_in(claim: CheckedClaim, window: MonthWindow) -> Option<ClaimClosing>
+    ensures { result ≡ closing_within claim.closing window.first.day.0 window.last.day.0 }
 {
-    if !claim.closed {
-        return false;
+    let closing = claim.closing?;
+    if (window.first.day..=window.last.day).contains(&closing.termination.day) {
+        return Some(closing);
     }
-    if claim.termination.day.0 < window.first.day.0 {
-        return false;
-    }
-    claim.termination.day.0 <= window.last.day.0
+    None
 }
 
 // The later of two days.
+// Kept: `max` by a derived order would compare their months too.
+#[tactic(auto, unfolding(crate::specs::Private::later_of))]
 pub(crate) fn later(one: MonthDay, other: MonthDay) -> MonthDay
     ensures { result ≡ later_of one other }
 {
-    if one.day.0 < other.day.0 {
+    if one.day < other.day {
         return other;
     }
     one
@@ -45,30 +49,29 @@ pub(crate) fn exposed_from(claim: CheckedClaim, first: MonthDay) -> MonthDay
 }
 
 // l, the last exposed day.
+#[tactic(auto, unfolding(crate::specs::Private::to_at))]
 pub(crate) fn exposed_to(claim: CheckedClaim, last: MonthDay) -> MonthDay
     ensures { result ≡ to_of claim last }
 {
-    if !claim.closed {
-        return last;
+    match claim.closing {
+        Some(closing) if closing.termination.day < last.day => closing.termination,
+        _ => last,
     }
-    if claim.termination.day.0 < last.day.0 {
-        return claim.termination;
-    }
-    last
 }
 
 // B of a claim month that ends on the window's first day or later.
+#[tactic(auto, unfolding(crate::specs::Exposure::month_b))]
 fn month_b(first: Day, month: ClaimMonth) -> Thirtieths
-    requires first_le_last { first.0 ≤ month.last.0 }
-    requires last_bound { month.last.0 ≤ month.first.0 + 30 }
+    requires { first.0 ≤ month.last.0 }
     ensures { result.0 ≡ month_b first.0 month.first.0 month.last.0 }
 {
-    if first.0 <= month.first.0 {
+    if first <= month.first {
         return Thirtieths(0);
     }
     Thirtieths(30 - (month.last.0 - first.0 + 1))
 }
 
+// Kept: compared by number, as in `exposed_months` and `claim_month`: by the derived order the proofs of the three didn't close.
 // The claim month that holds f, in a window from a day on. Unless BCD is before that day it is the first one, which starts on BCD.
 fn begin_month(claim: CheckedClaim, first: MonthDay) -> BeginMonth
     requires of_claim { OfClaim claim }
@@ -93,53 +96,48 @@ fn begin_month(claim: CheckedClaim, first: MonthDay) -> BeginMonth
 }
 
 // U of the closing month.
-fn closing_u(claim: CheckedClaim, month: ClaimMonth) -> Thirtieths
-    requires first_le_day { month.first.0 ≤ claim.termination.day.0 }
-    requires day_le_last { claim.termination.day.0 ≤ month.last.0 }
-    requires last_bound { month.last.0 ≤ month.first.0 + 30 }
-    ensures { result.0 ≡ closing_of claim month.first.0 month.last.0 }
+#[tactic(auto, unfolding(crate::specs::Private::closing_of))]
+fn closing_u(closing: ClaimClosing, month: ClaimMonth) -> Thirtieths
+    requires first_le_day { month.first.0 ≤ closing.termination.day.0 }
+    requires day_le_last { closing.termination.day.0 ≤ month.last.0 }
+    ensures { result.0 ≡ closing_of closing month.first.0 month.last.0 }
 {
-    if claim.category == 1 {
+    if closing.category == 1 || closing.category == 2 {
         return Thirtieths(30);
     }
-    if claim.category == 2 {
-        return Thirtieths(30);
-    }
-    let termination = claim.termination.day.0;
-    if claim.late {
+    let termination = closing.termination.day.0;
+    if closing.late {
         return Thirtieths(30 - (month.last.0 - termination));
     }
     let days = termination - month.first.0 + 1;
-    if days < 30 {
-        return Thirtieths(days);
-    }
-    Thirtieths(30)
+    Thirtieths(days.min(30))
 }
 
 // U of the month that holds l.
 fn last_u(claim: CheckedClaim, window: MonthWindow, month: ClaimMonth) -> Thirtieths
     requires first_bound { month.first.0 ≤ (to_of claim window.last).day.0 }
     requires last_bound { (to_of claim window.last).day.0 ≤ month.last.0 }
-    requires last_bound_2 { month.last.0 ≤ month.first.0 + 30 }
     ensures { result.0 ≡ last_u_of claim window month.first.0 month.last.0 }
 {
-    if closed_in(claim, window) {
-        return closing_u(claim, month);
+    match closing_in(claim, window) {
+        Some(closing) => closing_u(closing, month),
+        None => Thirtieths(30 - (month.last.0 - exposed_to(claim, window.last).day.0)),
     }
-    Thirtieths(30 - (month.last.0 - exposed_to(claim, window.last).day.0))
 }
 
 // The category of the month that holds l.
+#[tactic(auto, unfolding(crate::specs::Private::category_at))]
 fn last_category(claim: CheckedClaim, window: MonthWindow) -> u8
     ensures { result ≡ last_category_of claim window }
 {
-    if closed_in(claim, window) {
-        return claim.category;
+    match closing_in(claim, window) {
+        Some(closing) => closing.category,
+        None => 0,
     }
-    0
 }
 
 // No months in the window.
+#[tactic(auto, unfolding(crate::specs::Span::span_of))]
 fn no_months() -> ExposedMonths
     ensures span_value { result.span ≡ span_of [] }
     ensures begin_value { result.begin ≡ no_begin }
@@ -183,18 +181,14 @@ pub(crate) fn exposed_months(claim: CheckedClaim, window: MonthWindow) -> Expose
     ExposedMonths { span, begin }
 }
 
-// The span of a claim's months in a window, or the number refused.
-pub fn span(claim: Claim, window: Window) -> MaybeSpan
-    ensures { result ≡ span_in claim window.first.0 window.last.0 }
+// The span of a claim's months in a window, or the first check that fails.
+pub fn span(claim: Claim, window: Window) -> Result<Span, Refusal>
+    ensures { numbered result ≡ span_in claim window.first.0 window.last.0 }
 {
     if !is_sound(window) {
-        return MaybeSpan::Refused(refusal::WINDOW);
+        return Err(Refusal::Window);
     }
-    match checked(claim) {
-        MaybeChecked::Checked(sound) => {
-            let span = exposed_months(sound, with_months(window)).span;
-            MaybeSpan::Spanned(span)
-        }
-        MaybeChecked::Refused(refused) => MaybeSpan::Refused(refused),
-    }
+    let sound = checked(claim)?;
+    let span = exposed_months(sound, with_months(window)).span;
+    Ok(span)
 }

@@ -1,7 +1,8 @@
 // The listing of a claim's month records in a window.
-ghost use Rattle.std.specs.Prelude.{◌≡◌, ◌+◌, ◌-◌, ◌*◌, ◌≤◌, ◌<◌, min, pos, length};
+ghost use Rattle.std.specs.Prelude.{◌≡◌, ◌+◌, ◌-◌, ◌*◌, ◌≤◌, ◌<◌, pos, length};
 ghost use Rattle.std.proofs.Math.IntN.{sub_ℕ};
 ghost use Rattle.std.proofs.lemmas.List.Edits.{sets};
+ghost use Rattle.basics.specs.Refused.{numbered};
 ghost use Rattle.claim_months.specs.Listing.{row, listing_of, list_after};
 ghost use Rattle.claim_months.specs.Private.{RowBounds, record_of, span_category, span_record, later_of, Placed, OfClaim, SoundWindow, MonthsFor, RowsFor, ListedFor};
 
@@ -9,14 +10,14 @@ use crate::check::checked;
 use crate::exposure::{exposed_from, exposed_months, exposed_to, later};
 use crate::month::start_in;
 use crate::windows::{window, with_months};
-use crate::{
-    CheckedClaim, Claim, ExposedMonths, Listed, MaybeChecked, MaybeWindow, MonthDay, MonthWindow,
-    Row, Span, Thirtieths,
-};
-use basics::{Duration, refusal};
+use crate::{CheckedClaim, Claim, ExposedMonths, MonthDay, MonthWindow, Row, Span, Thirtieths};
+use basics::Duration;
+use basics::refusal::Refusal;
 use calendar::{Date, Day};
 
 // A number below 2³¹ as a signed one.
+// Kept: `try_from` has a way out that no caller takes.
+#[tactic(auto, using(crate::proofs::SignedRecords::read_back))]
 fn signed(number: u32) -> i32
     requires { number < 2147483648 }
     ensures { result ≡ pos number }
@@ -33,17 +34,8 @@ fn difference(upper: Thirtieths, lower: Thirtieths) -> i32
     signed(upper.0) - signed(lower.0)
 }
 
-// The earlier of two days.
-fn earlier(one: Day, other: Day) -> Day
-    ensures { result.0 ≡ min one.0 other.0 }
-{
-    if other.0 < one.0 {
-        return other;
-    }
-    one
-}
-
 // The category of a span's month.
+#[tactic(auto, unfolding(crate::specs::Private::span_category))]
 fn month_category(span: Span, place: u32) -> u8
     requires { place < span.months }
     ensures { result ≡ span_category span place }
@@ -55,6 +47,7 @@ fn month_category(span: Span, place: u32) -> u8
 }
 
 // The record of a span's month from `start` to the day before `next`, where the days `from` to `to` are exposed.
+#[tactic(auto, unfolding(crate::specs::Private::span_record))]
 fn month_row(span: Span, place: u32, start: MonthDay, next: Day, from: MonthDay, to: Day) -> Row
     requires first_bound { span.first.0 ≤ 3626 }
     requires place_lt_months { place < span.months }
@@ -66,7 +59,7 @@ fn month_row(span: Span, place: u32, start: MonthDay, next: Day, from: MonthDay,
     Row {
         duration: Duration(span.first.0 + place),
         first: later(start, from),
-        last: earlier(Day(next.0 - 1), to),
+        last: Day((next.0 - 1).min(to.0)),
         upper: span.upper(place),
         lower: span.lower(place),
         category: month_category(span, place),
@@ -80,15 +73,19 @@ fn put_row(list: &mut [i32], at: usize, month: Row)
     requires placed { Placed month.first }
     ensures { list.new ≡ sets list.old at (row (record_of month)) }
 {
-    list[at] = signed(month.duration.0);
-    list[at + 1] = signed(month.first.day.0);
-    list[at + 2] = signed(month.last.0);
-    list[at + 3] = difference(month.upper, month.lower);
-    list[at + 4] = signed(month.first.month);
-    list[at + 5] = signed(month.category as u32);
+    let numbers = [
+        signed(month.duration.0),
+        signed(month.first.day.0),
+        signed(month.last.0),
+        difference(month.upper, month.lower),
+        signed(month.first.month),
+        i32::from(month.category),
+    ];
+    list[at..at + 6].copy_from_slice(&numbers);
 }
 
 // Stores the records of a window's months, of which there are some, from the list's start on.
+// Kept: by places, since the proof over `chunks_exact_mut` didn't close: while rows are lent, the invariant knows nothing of the list.
 fn put_rows(claim: CheckedClaim, window: MonthWindow, months: ExposedMonths, list: &mut [i32])
     requires of_claim { OfClaim claim }
     requires sound_window { SoundWindow window }
@@ -105,8 +102,7 @@ fn put_rows(claim: CheckedClaim, window: MonthWindow, months: ExposedMonths, lis
         day,
         month: claim.bcd.month + months.begin.place,
     };
-    let mut place: u32 = 0;
-    while place < span.months {
+    for place in 0..span.months {
         let next = MonthDay {
             day: start_in(claim, start.month + 1),
             month: start.month + 1,
@@ -114,38 +110,33 @@ fn put_rows(claim: CheckedClaim, window: MonthWindow, months: ExposedMonths, lis
         let record = month_row(span, place, start, next.day, from, to);
         put_row(list, 6 * place as usize, record);
         start = next;
-        place += 1;
     }
 }
 
 // The listing of a checked claim in a sound window.
-fn list_checked(claim: CheckedClaim, window: MonthWindow, list: &mut [i32]) -> Listed
+fn list_checked(claim: CheckedClaim, window: MonthWindow, list: &mut [i32]) -> Result<u32, Refusal>
     requires of_claim { OfClaim claim }
     requires sound_window { SoundWindow window }
-    ensures { ListedFor claim window list.old list.new result }
+    ensures { ListedFor claim window list.old list.new (numbered result) }
 {
     let months = exposed_months(claim, window);
     let span = months.span;
     if span.months == 0 {
-        return Listed::Months(0);
+        return Ok(0);
     }
     if list.len() < 6 * span.months as usize {
-        return Listed::Refused(refusal::SHORT_LIST);
+        return Err(Refusal::ShortList);
     }
     put_rows(claim, window, months, list);
-    Listed::Months(span.months)
+    Ok(span.months)
 }
 
-// Lists the month records, six numbers each, and answers how many there are, or the number refused.
-pub fn list_months(first: Date, last: Date, claim: Claim, list: &mut [i32]) -> Listed
-    ensures value { result ≡ listing_of first last claim (length list.old) }
+// Lists the month records, six numbers each, and answers how many there are, or the first check that fails.
+pub fn list_months(first: Date, last: Date, claim: Claim, list: &mut [i32]) -> Result<u32, Refusal>
+    ensures value { numbered result ≡ listing_of first last claim (length list.old) }
     ensures list_after { list.new ≡ list_after first last claim list.old }
 {
-    let MaybeWindow::Known(days) = window(first, last) else {
-        return Listed::Refused(refusal::WINDOW);
-    };
-    match checked(claim) {
-        MaybeChecked::Checked(sound) => list_checked(sound, with_months(days), list),
-        MaybeChecked::Refused(refused) => Listed::Refused(refused),
-    }
+    let days = window(first, last)?;
+    let sound = checked(claim)?;
+    list_checked(sound, with_months(days), list)
 }

@@ -1,34 +1,22 @@
 // The claim months of a claim.
 ghost use Rattle.std.specs.Prelude.{◌≡◌, ◌≤◌};
 ghost use Rattle.calendar.specs.Calendar.{first_month, end_month};
-ghost use Rattle.claim_months.specs.Private.{day_in, start_of, OfClaim, Placed, HoldsFor};
+ghost use Rattle.claim_months.specs.Private.{start_of, OfClaim, Placed, HoldsFor};
 
-use crate::{CheckedClaim, ClaimMonth, MonthDay};
-use calendar::{Day, MaybeDay};
-
-// The day that a look-up found, or day 0.
-pub(crate) fn known_day(found: MaybeDay) -> Day
-    ensures { result ≡ day_in found }
-{
-    match found {
-        MaybeDay::Known(day) => day,
-        MaybeDay::NoDay => Day(0),
-    }
-}
+use crate::{CheckedClaim, ClaimMonth, MonthDay, Starts};
+use calendar::Day;
 
 // The first day of the claim month that starts in the calendar month with an index.
 pub(crate) fn start_in(claim: CheckedClaim, index: u32) -> Day
-    requires offset_bound { claim.offset ≤ 25 }
+    requires of_claim { OfClaim claim }
     requires first_month_le_index { first_month ≤ index }
     requires index_le_end_month { index ≤ end_month }
     ensures { result.0 ≡ start_of claim index }
 {
-    if claim.backward {
-        let start = known_day(calendar::last_day(index)).0 - claim.offset;
-        return Day(start);
+    match claim.starts {
+        Starts::After(days) => Day(calendar::first_day(index).unwrap_or(Day(0)).0 + days),
+        Starts::Before(days) => Day(calendar::last_day(index).unwrap_or(Day(0)).0 - days),
     }
-    let start = known_day(calendar::first_day(index)).0 + claim.offset;
-    Day(start)
 }
 
 // The claim month that holds a day from BCD on.

@@ -6,19 +6,18 @@ use crate::{Span, Thirtieths};
 
 impl Span {
     // U of a month.
+    #[tactic(auto, unfolding(crate::specs::Span::span_u))]
     pub fn upper(self, place: u32) -> Thirtieths
         ensures { result.0 ≡ span_u self place }
     {
-        if self.months == 0 {
-            return Thirtieths(30);
-        }
-        if place == self.months - 1 {
+        if self.months > 0 && place == self.months - 1 {
             return self.through;
         }
         Thirtieths(30)
     }
 
     // B of a month.
+    #[tactic(auto, unfolding(crate::specs::Span::span_b))]
     pub fn lower(self, place: u32) -> Thirtieths
         ensures { result.0 ≡ span_b self place }
     {
@@ -32,6 +31,6 @@ impl Span {
     pub fn thirtieths(self, place: u32) -> i64
         ensures { result ≡ span_thirtieths self place }
     {
-        self.upper(place).0 as i64 - self.lower(place).0 as i64
+        i64::from(self.upper(place).0) - i64::from(self.lower(place).0)
     }
 }

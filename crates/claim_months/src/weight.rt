@@ -5,11 +5,9 @@ ghost use Rattle.claim_months.specs.Claim.{weight};
 use crate::Claim;
 
 // Its benefit; a 0 weighs as 1.
+#[tactic(auto, unfolding(crate::specs::Claim::weight))]
 pub fn weight_of(claim: Claim) -> u8
     ensures { result ≡ weight claim }
 {
-    if claim.benefit == 0 {
-        return 1;
-    }
-    claim.benefit
+    claim.benefit.max(1)
 }

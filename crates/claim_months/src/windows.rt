@@ -1,55 +1,43 @@
 // Check 1, the window of two dates, and its months.
 ghost use Rattle.std.specs.Prelude.{◌≡◌, true, ◌≤◌};
+ghost use Rattle.basics.specs.Refused.{numbered};
 ghost use Rattle.calendar.specs.Calendar.{last_day_number};
 ghost use Rattle.claim_months.specs.Windows.{window_sound, window_in};
 ghost use Rattle.claim_months.specs.Private.{with_month, with_months};
 
-use crate::{MaybeWindow, MonthDay, MonthWindow, Window};
-use basics::refusal;
-use calendar::{Date, Day, MaybeDay, MaybeMonth};
+use crate::{MonthDay, MonthWindow, Window};
+use basics::refusal::Refusal;
+use calendar::{Date, Day};
 
 // Check 1, of a window as two day numbers.
+#[tactic(auto, unfolding(crate::specs::Windows::window_sound))]
 pub fn is_sound(window: Window) -> bool
     ensures { result ≡ window_sound window.first.0 window.last.0 }
 {
-    if window.first.0 > calendar::LAST_DAY {
-        return false;
-    }
-    if window.last.0 > calendar::LAST_DAY {
-        return false;
-    }
-    window.first.0 <= window.last.0
+    window.first <= window.last && window.last.0 <= calendar::LAST_DAY
 }
 
-// The window of two dates, both included, or the number refused.
-pub fn window(first: Date, last: Date) -> MaybeWindow
-    ensures { result ≡ window_in first last }
+// The window of two dates, both included, or refusal 1.
+pub fn window(first: Date, last: Date) -> Result<Window, Refusal>
+    ensures { numbered result ≡ window_in first last }
 {
-    let MaybeDay::Known(from) = calendar::day_number(first) else {
-        return MaybeWindow::Refused(refusal::WINDOW);
-    };
-    let MaybeDay::Known(to) = calendar::day_number(last) else {
-        return MaybeWindow::Refused(refusal::WINDOW);
-    };
     let found = Window {
-        first: from,
-        last: to,
+        first: calendar::day_number(first).ok_or(Refusal::Window)?,
+        last: calendar::day_number(last).ok_or(Refusal::Window)?,
     };
-    if is_sound(found) {
-        return MaybeWindow::Known(found);
+    if !is_sound(found) {
+        return Err(Refusal::Window);
     }
-    MaybeWindow::Refused(refusal::WINDOW)
+    Ok(found)
 }
 
 // A day with its month.
+#[tactic(auto, unfolding(calendar::specs::DayAnswers::month_at))]
 fn with_month(day: Day) -> MonthDay
     requires { day.0 ≤ last_day_number }
     ensures { result ≡ with_month day }
 {
-    let month = match calendar::month_of_day(day) {
-        MaybeMonth::Index(index) => index,
-        MaybeMonth::NoMonth => 0,
-    };
+    let month = calendar::month_of_day(day).unwrap_or(0);
     MonthDay { day, month }
 }
 

@@ -1,9 +1,8 @@
 // Claims listed in a window and in its three parts, side by side by duration.
 use crate::{BEFORE, closed, days_before, head, open, put_date};
 use calendar::Date;
-use claim_months::{Claim, Listed};
+use claim_months::Claim;
 use std::io;
-use std::num::{wrapping_add_u32, wrapping_add_u64, wrapping_sub_u64};
 use test_support::dates::date;
 use test_support::numbers::bits_of_short;
 use test_support::print::{put, put_number, put_signed};
@@ -78,10 +77,7 @@ fn in_three(
 
 fn records(first: Date, last: Date, claim: Claim) -> MonthList {
     let mut list = [BEFORE; 60];
-    let months = match claim_months::listing::list_months(first, last, claim, &mut list) {
-        Listed::Months(months) => months,
-        Listed::Refused(_) => 0,
-    };
+    let months = claim_months::listing::list_months(first, last, claim, &mut list).unwrap_or(0);
     MonthList { months, list }
 }
 
@@ -93,11 +89,8 @@ fn side_by_side(
     two: MonthList,
     three: MonthList,
 ) -> io::Result<()> {
-    let before = wrapping_sub_u64(bits_of_short(whole.list[0]), 1);
-    let lines = wrapping_add_u32(whole.months, 2);
-    let mut line: u32 = 0;
-    while line < lines {
-        let duration = wrapping_add_u64(before, line as u64);
+    let before = bits_of_short(whole.list[0]).wrapping_sub(1);
+    for duration in before..before.wrapping_add(u64::from(whole.months)).wrapping_add(2) {
         put_line(
             rt,
             duration,
@@ -106,7 +99,6 @@ fn side_by_side(
             share_at(two, duration),
             share_at(three, duration),
         )?;
-        line += 1;
     }
     Ok(())
 }
@@ -132,10 +124,9 @@ fn put_line(
     put(rt, b"; together ")?;
     put_signed(
         rt,
-        wrapping_add_u64(
-            one.thirtieths,
-            wrapping_add_u64(two.thirtieths, three.thirtieths),
-        ),
+        one.thirtieths
+            .wrapping_add(two.thirtieths)
+            .wrapping_add(three.thirtieths),
     )?;
     put(rt, b"\n")
 }
@@ -150,30 +141,17 @@ fn put_share(rt: &impl Print, share: Share) -> io::Result<()> {
 }
 
 fn share_at(records: MonthList, duration: u64) -> Share {
+    let mut share = Share {
+        thirtieths: 0,
+        category: 0,
+    };
     let list = records.list;
-    listed(&list, records.months, duration)
-}
-
-fn listed(list: &[i32], months: u32, duration: u64) -> Share {
-    let mut thirtieths = 0;
-    let mut category = 0;
-    let mut place: u32 = 0;
-    while place < months {
-        let at = 6 * place as usize;
-        if list.len() < at + 6 {
-            return Share {
-                thirtieths,
-                category,
-            };
+    let (rows, _) = list.as_chunks::<6>();
+    for row in rows.iter().take(records.months as usize) {
+        if bits_of_short(row[0]) == duration {
+            share.thirtieths = share.thirtieths.wrapping_add(bits_of_short(row[3]));
+            share.category = share.category.wrapping_add(bits_of_short(row[5]));
         }
-        if bits_of_short(list[at]) == duration {
-            thirtieths = wrapping_add_u64(thirtieths, bits_of_short(list[at + 3]));
-            category = wrapping_add_u64(category, bits_of_short(list[at + 5]));
-        }
-        place += 1;
     }
-    Share {
-        thirtieths,
-        category,
-    }
+    share
 }

@@ -4,17 +4,14 @@
 
 mod durations;
 
-ghost use Rattle.std.specs.Prelude.{◌+◌, ◌≤◌, length};
-
-use calendar::{Date, Day, MaybeDate, MaybeDay};
-use claim_months::{Claim, Listed};
+use calendar::{Date, Day};
+use claim_months::Claim;
 use durations::durations;
 use std::io;
-use std::num::{wrapping_add_u64, wrapping_sub_u32};
 use test_support::dates::date;
 use test_support::lists::throughout;
 use test_support::numbers::bits_of_short;
-use test_support::print::{put, put_number, put_signed};
+use test_support::print::{put, put_named, put_number, put_signed};
 
 // What each place of the lent list holds before a listing.
 const BEFORE: i32 = -9999;
@@ -39,30 +36,25 @@ fn main(rt: HostRuntime) -> io::Result<()> {
 }
 
 fn leap_days(rt: &impl Print) -> io::Result<()> {
-    in_spring(rt, 20000229)?;
-    in_spring(rt, 20010229)
+    in_springs(rt, &[20000229, 20010229])
 }
 
 // BCDs on the last days of January, in a year with 28 days in February and in one with 29.
 fn month_ends(rt: &impl Print) -> io::Result<()> {
-    in_spring(rt, 20110126)?;
-    in_spring(rt, 20110127)?;
-    in_spring(rt, 20110129)?;
-    in_spring(rt, 20110130)?;
-    in_spring(rt, 20110131)?;
-    in_spring(rt, 20120129)?;
-    in_spring(rt, 20120130)?;
-    in_spring(rt, 20120131)?;
-    in_spring(rt, 20120229)
+    in_springs(
+        rt,
+        &[
+            20110126, 20110127, 20110129, 20110130, 20110131, 20120129, 20120130, 20120131,
+            20120229,
+        ],
+    )
 }
 
 fn eliminations(rt: &impl Print) -> io::Result<()> {
-    spring(rt, 2010, open(20100415, 14))?;
-    spring(rt, 2010, open(20100415, 15))?;
-    spring(rt, 2010, open(20100415, 44))?;
-    spring(rt, 2010, open(20100415, 45))?;
-    spring(rt, 2010, open(20100415, 90))?;
-    spring(rt, 2010, open(20100415, 180))
+    for days in [14, 15, 44, 45, 90, 180] {
+        spring(rt, 2010, open(20100415, days))?;
+    }
+    Ok(())
 }
 
 fn long_claims(rt: &impl Print) -> io::Result<()> {
@@ -237,21 +229,24 @@ fn claim(
 
 // The date some days before a date; missing, of what is no date.
 fn days_before(day: u32, days: u32) -> Date {
-    match calendar::day_number(date(day)) {
-        MaybeDay::Known(number) => date_at(wrapping_sub_u32(number.0, days) as u64),
-        MaybeDay::NoDay => date(0),
-    }
+    calendar::day_number(date(day)).map_or(date(0), |number| {
+        date_at(number.0.wrapping_sub(days) as u64)
+    })
 }
 
 // The date of a day number; missing, of what is none.
 fn date_at(number: u64) -> Date {
-    if number > 4294967295 {
-        return date(0);
+    u32::try_from(number)
+        .ok()
+        .and_then(|day| calendar::date_of_day(Day(day)))
+        .unwrap_or(date(0))
+}
+
+fn in_springs(rt: &impl Print, bcds: &[u32]) -> io::Result<()> {
+    for bcd in bcds {
+        in_spring(rt, *bcd)?;
     }
-    match calendar::date_of_day(Day(number as u32)) {
-        MaybeDate::Found(day) => day,
-        MaybeDate::NoDate => date(0),
-    }
+    Ok(())
 }
 
 // Shows an open claim of EP 90 in the spring of its BCD's year.
@@ -288,8 +283,8 @@ fn show(rt: &impl Print, first: u32, last: u32, claim: Claim) -> io::Result<()> 
 fn show_in(rt: &impl Print, room: usize, first: Date, last: Date, claim: Claim) -> io::Result<()> {
     head(rt, first, last, claim)?;
     let mut space = [BEFORE; 660];
-    if room <= 660 {
-        answer(rt, first, last, claim, &mut space[..room])?;
+    if let Some(list) = space.get_mut(..room) {
+        answer(rt, first, last, claim, list)?;
     }
     Ok(())
 }
@@ -307,10 +302,8 @@ fn head(rt: &impl Print, first: Date, last: Date, claim: Claim) -> io::Result<()
     put_date(rt, claim.termination)?;
     put(rt, b", maximum ")?;
     put_date(rt, claim.maximum)?;
-    put(rt, b", status ")?;
-    put_number(rt, claim.status as u64)?;
-    put(rt, b", code ")?;
-    put_number(rt, claim.code as u64)?;
+    put_named(rt, b", status ", claim.status as u64)?;
+    put_named(rt, b", code ", claim.code as u64)?;
     put(rt, b"\n")
 }
 
@@ -322,7 +315,7 @@ fn answer(
     list: &mut [i32],
 ) -> io::Result<()> {
     match claim_months::listing::list_months(first, last, claim, list) {
-        Listed::Months(months) => {
+        Ok(months) => {
             let total = put_rows(rt, list, months)?;
             put_number(rt, months as u64)?;
             put(rt, b" months, ")?;
@@ -330,9 +323,8 @@ fn answer(
             put(rt, b" thirtieths, list past them")?;
             put_change(rt, throughout(list, 6 * months as usize, BEFORE))?;
         }
-        Listed::Refused(number) => {
-            put(rt, b"refused ")?;
-            put_number(rt, number as u64)?;
+        Err(refusal) => {
+            put_named(rt, b"refused ", u8::from(refusal) as u64)?;
             put(rt, b", list")?;
             put_change(rt, throughout(list, 0, BEFORE))?;
         }
@@ -342,44 +334,33 @@ fn answer(
 
 // Puts the records, one to a line, and answers the bits of the sum of their thirtieths.
 fn put_rows(rt: &impl Print, list: &[i32], months: u32) -> io::Result<u64> {
-    let mut total = 0;
-    let mut place: u32 = 0;
-    while place < months {
-        let at = 6 * place as usize;
-        if list.len() < at + 6 {
-            return Ok(total);
-        }
-        put_row(rt, list, at)?;
-        total = wrapping_add_u64(total, bits_of_short(list[at + 3]));
-        place += 1;
+    let mut total: u64 = 0;
+    let (rows, _) = list.as_chunks::<6>();
+    for row in rows.iter().take(months as usize) {
+        put_row(rt, row)?;
+        total = total.wrapping_add(bits_of_short(row[3]));
     }
     Ok(total)
 }
 
-fn put_row(rt: &impl Print, list: &[i32], at: usize) -> io::Result<()>
-    requires { at + 6 ≤ length list.now }
-{
+fn put_row(rt: &impl Print, row: &[i32; 6]) -> io::Result<()> {
     put(rt, b"  ")?;
-    put_short(rt, list[at])?;
+    put_short(rt, row[0])?;
     put(rt, b": ")?;
-    put_day(rt, list[at + 1])?;
+    put_day(rt, row[1])?;
     put(rt, b" to ")?;
-    put_day(rt, list[at + 2])?;
+    put_day(rt, row[2])?;
     put(rt, b", ")?;
-    put_short(rt, list[at + 3])?;
+    put_short(rt, row[3])?;
     put(rt, b" thirtieths, month ")?;
-    put_short(rt, list[at + 4])?;
+    put_short(rt, row[4])?;
     put(rt, b", category ")?;
-    put_short(rt, list[at + 5])?;
+    put_short(rt, row[5])?;
     put(rt, b"\n")
 }
 
 fn put_change(rt: &impl Print, same: bool) -> io::Result<()> {
-    if same {
-        put(rt, b" unchanged\n")?;
-        return Ok(());
-    }
-    put(rt, b" changed\n")
+    put(rt, if same { b" unchanged\n" } else { b" changed\n" })
 }
 
 fn put_short(rt: &impl Print, number: i32) -> io::Result<()> {
@@ -390,6 +371,7 @@ fn put_day(rt: &impl Print, number: i32) -> io::Result<()> {
     put_date(rt, date_at(bits_of_short(number)))
 }
 
+// Kept: `calendar_test` prints a date without zeros before it, so that the two are not one.
 fn put_date(rt: &impl Print, date: Date) -> io::Result<()> {
     put_number(rt, date.year as u64)?;
     put(rt, b"-")?;

@@ -7,24 +7,23 @@ use Rattle.basics.specs.declared.Day.{Day}
 use Rattle.basics.specs.Pick.{pick}
 use Rattle.basics.proofs.Tests.{tests}
 use Rattle.calendar.specs.declared.Date.{Date}
-use Rattle.calendar.specs.declared.MaybeDay.TheVariants.{Known, NoDay}
 use Rattle.calendar.specs.Calendar.{is_date, day_number}
 use Rattle.calendar.specs.DayAnswers.{known, day_of}
 use Rattle.claim_months.specs.declared.Claim.{Claim}
-use Rattle.claim_months.specs.declared.MaybeDays.TheVariants.{Days, NoDays}
 use Rattle.claim_months.specs.Claim.{is_missing, is_closed, dates_sound}
-use Rattle.claim_months.specs.Private.{as_day, days_of}
+use Rattle.claim_months.specs.Private.{days_of}
+use Rattle.claim_months.proofs.Picked.{picked, unpicked}
 use Rattle.claim_months.proofs.Checked.{day-known, day-unknown}
 use Rattle.claim_months.proofs.check.claim_days.Goals as goal
+use Rattle.std.specs.Prelude.{Option, None, Some}
 
--- a date that is asked for is known or not; another is day 0
-if-known : (t : Bool) (d : Date) (x : Day) → Known x ≡ pick t (day_of d) (known 0) → ((not t || is_date d) ≡ true) × (x ≡ as_day (pick t (day_number d) 0))
-if-known true d x h = day-known d x h
-if-known false d x h = (refl, cc)
+-- a date that is asked for is known or not; another has no day
+if-known : (t : Bool) (d : Date) (x : Option Day) → Some x ≡ pick (not t || is_date d) (Some (pick t (known (day_number d)) None)) None
+    → ((not t || is_date d) ≡ true) × (x ≡ pick t (known (day_number d)) None)
+if-known t d x h = let p = picked (not t || is_date d) h (λ e. absurd (let z : ◌≡◌ {A = ℕ} 0 1 = cc in omega tests)) in (p.0, cc)
 
-if-unknown : (t : Bool) (d : Date) → NoDay ≡ pick t (day_of d) (known 0) → (not t || is_date d) ≡ false
-if-unknown true d h = day-unknown d h
-if-unknown false d h = let z : ◌≡◌ {A = ℕ} 0 1 = cc in absurd (omega tests)
+if-unknown : (t : Bool) (d : Date) → None ≡ pick (not t || is_date d) (Some (pick t (known (day_number d)) None)) None → (not t || is_date d) ≡ false
+if-unknown t d h = (unpicked (not t || is_date d) h (λ e. absurd (let z : ◌≡◌ {A = ℕ} 0 1 = cc in omega tests))).0
 
 -- the maximum is asked for unless it is missing
 unless-missing : (m a : Bool) → (a || m) ≡ (not (not m) || a)
@@ -33,34 +32,35 @@ unless-missing true false = refl
 unless-missing false true = refl
 unless-missing false false = refl
 
-pick-not : (m : Bool) (n : ℕ) → pick (not m) n 0 ≡ pick m 0 n
-pick-not true n = refl
-pick-not false n = refl
+pick-not : (m : Bool) (x y : Option Day) → pick (not m) x y ≡ pick m y x
+pick-not true x y = refl
+pick-not false x y = refl
 
 module _ (c : Claim) where
-  none : dates_sound c ≡ false → NoDays ≡ pick (dates_sound c) (Days (days_of c)) NoDays
+  none : dates_sound c ≡ false → None ≡ pick (dates_sound c) (Some (days_of c)) None
   none h = rw h
 
-  no-disability : NoDay ≡ day_of c.disability → dates_sound c ≡ false
+  no-disability : None ≡ day_of c.disability → dates_sound c ≡ false
   unfolding dates_sound
   no-disability h = simp (day-unknown c.disability h)
 
-  no-bcd : NoDay ≡ day_of c.bcd → dates_sound c ≡ false
+  no-bcd : None ≡ day_of c.bcd → dates_sound c ≡ false
   unfolding dates_sound
   no-bcd h = simp (day-unknown c.bcd h, and-false)
 
-  no-termination : NoDay ≡ pick (is_closed c) (day_of c.termination) (known 0) → dates_sound c ≡ false
+  no-termination : None ≡ pick (not (is_closed c) || is_date c.termination) (Some (pick (is_closed c) (known (day_number c.termination)) None)) None → dates_sound c ≡ false
   unfolding dates_sound
   no-termination h = simp (if-unknown (is_closed c) c.termination h, and-false)
 
-  no-maximum : NoDay ≡ pick (not (is_missing c.maximum)) (day_of c.maximum) (known 0) → dates_sound c ≡ false
+  no-maximum : None ≡ pick (not (not (is_missing c.maximum)) || is_date c.maximum) (Some (pick (not (is_missing c.maximum)) (known (day_number c.maximum)) None)) None → dates_sound c ≡ false
   unfolding dates_sound
   no-maximum h =
       simp (unless-missing (is_missing c.maximum) (is_date c.maximum) ∙ if-unknown (not (is_missing c.maximum)) c.maximum h, and-false)
 
-  all : (d b t m : Day) → Known d ≡ day_of c.disability → Known b ≡ day_of c.bcd → Known t ≡ pick (is_closed c) (day_of c.termination) (known 0)
-      → Known m ≡ pick (not (is_missing c.maximum)) (day_of c.maximum) (known 0)
-      → Days (record { disability = d; bcd = b; termination = t; maximum = m }) ≡ pick (dates_sound c) (Days (days_of c)) NoDays
+  all : (d b : Day) (t m : Option Day) → Some d ≡ day_of c.disability → Some b ≡ day_of c.bcd
+      → Some t ≡ pick (not (is_closed c) || is_date c.termination) (Some (pick (is_closed c) (known (day_number c.termination)) None)) None
+      → Some m ≡ pick (not (not (is_missing c.maximum)) || is_date c.maximum) (Some (pick (not (is_missing c.maximum)) (known (day_number c.maximum)) None)) None
+      → Some (record { disability = d; bcd = b; termination = t; maximum = m }) ≡ pick (dates_sound c) (Some (days_of c)) None
   unfolding dates_sound
   all d b t m hd hb ht hm =
       let kd = day-known c.disability d hd in
@@ -68,23 +68,25 @@ module _ (c : Claim) where
       let kt = if-known (is_closed c) c.termination t ht in
       let km = if-known (not (is_missing c.maximum)) c.maximum m hm in
       let sm = unless-missing (is_missing c.maximum) (is_date c.maximum) ∙ km.0 in
-      let em : m ≡ as_day (pick (is_missing c.maximum) 0 (day_number c.maximum)) = km.1 ∙ (λ i. as_day (pick-not (is_missing c.maximum) (day_number c.maximum) i)) in
-      rw (kd.0, kb.0, kt.0, sm) (λ i. Days (record { disability = kd.1 i; bcd = kb.1 i; termination = kt.1 i; maximum = em i }))
+      let em = km.1 ∙ pick-not (is_missing c.maximum) (known (day_number c.maximum)) None in
+      rw (kd.0, kb.0, kt.0, sm) (λ i. Some (record { disability = kd.1 i; bcd = kb.1 i; termination = kt.1 i; maximum = em i }))
 
-pub returns-in_default : goal.returns-in_default
-returns-in_default c = none _ (no-disability _ cc)
+pub returns-in_err-day_number : goal.returns-in_err-day_number
+returns-in_err-day_number c = c.from_residual.ensures ∙ none _ (no-disability _ c.in_err-day_number.ensures)
 
-pub returns-in_default-day_number : goal.returns-in_default-day_number
-returns-in_default-day_number c = none _ (no-bcd _ cc)
+pub returns-in_err-day_number-2 : goal.returns-in_err-day_number-2
+returns-in_err-day_number-2 c = c.from_residual-in_err-day_number-2.ensures ∙ none _ (no-bcd _ c.in_err-day_number-2.ensures)
 
-pub returns-in_default-day_if : goal.returns-in_default-day_if
+pub returns-in_err-day_if : goal.returns-in_err-day_if
 unfolding is_closed
-returns-in_default-day_if c = none _ (no-termination _ cc)
+returns-in_err-day_if c = c.from_residual-in_err-day_if.ensures ∙ none _ (no-termination _ c.in_err-day_if.ensures)
 
-pub returns-in_default-day_if-2 : goal.returns-in_default-day_if-2
-unfolding is_closed
-returns-in_default-day_if-2 c = none _ (no-maximum _ cc)
+pub returns-in_err-day_if-2 : goal.returns-in_err-day_if-2
+returns-in_err-day_if-2 c =
+    c.from_residual-in_err-day_if-2.ensures ∙ none _ (no-maximum _ (rw c.is_missing.ensures at c.in_err-day_if-2.ensures))
 
 pub returns : goal.returns
 unfolding is_closed
-returns c = all _ _ _ _ _ (cc) (cc) (cc) (cc)
+returns c =
+    all _ _ _ _ _ c.in_ok-day_number.ensures c.in_ok-day_number-2.ensures c.in_ok-day_if.ensures
+    (rw c.is_missing.ensures at c.in_ok-day_if-2.ensures)

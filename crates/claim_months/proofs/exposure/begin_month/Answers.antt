@@ -8,7 +8,6 @@ use Rattle.claim_months.specs.Exposure.{month_b}
 use Rattle.claim_months.proofs.Months.{first-starts, next-starts, last-next}
 use Rattle.claim_months.proofs.Spans.{B-none}
 use Rattle.claim_months.proofs.Checked.{later-day, claim-sound, bcd-day-is}
-use Rattle.claim_months.proofs.SpanCode.{month-days}
 use Rattle.claim_months.proofs.exposure.begin_month.Goals as goal
 
 abbrev day : MonthDay → ℕ
@@ -39,8 +38,7 @@ claim_month-month-requires c =
 pub month_b-requires : goal.month_b-requires
 month_b-requires c =
     let o = c.requires.of_claim in
-    let h = c.claim_month-month.ensures _ o.stands in
-    record { first_le_last = h.to; last_bound = month-days _ (claim-sound _ _ o.stands) _ _ h }
+    (c.claim_month-month.ensures _ o.stands).to
 
 pub returns : goal.returns
 returns c =

@@ -18,7 +18,7 @@ use Rattle.claim_months.proofs.MonthRuns.{records-none}
 use Rattle.claim_months.proofs.Spans.{first-duration}
 use Rattle.claim_months.proofs.Checked.{later-day, claim-sound, first-is, from_is, to_is, to-placed, last-u-is, last-category-is}
 use Rattle.claim_months.proofs.Rows.{months-are}
-use Rattle.claim_months.proofs.SpanCode.{SpanEnds, month-days, places-ordered, place-high, code-span}
+use Rattle.claim_months.proofs.SpanCode.{SpanEnds, places-ordered, place-high, code-span}
 use Rattle.claim_months.proofs.exposure.exposed_months.Goals as goal
 
 abbrev day : MonthDay → ℕ
@@ -101,7 +101,7 @@ last_u-requires c =
     let r = ends c.args.claim c.args.window _ _ c.exposed_from-from.ensures c.exposed_to-to.ensures o.claim o.stands c.requires.sound_window _ _ c.if-to-from.false
     c.begin_month-begin.ensures c.claim_month-end.ensures in
     let e = ap day c.exposed_to-to.ensures in
-    record { first_bound = omega (arith, r.end.from); last_bound = omega (arith, r.end.to); last_bound_2 = month-days _ r.sound _ _ r.end }
+    record { first_bound = omega (arith, r.end.from); last_bound = omega (arith, r.end.to) }
 
 pub returns : goal.returns
 returns c =

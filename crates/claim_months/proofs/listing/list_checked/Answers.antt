@@ -9,26 +9,26 @@ use borrow.Author.Tests.{le-leb, lt-leb}
 use lib.IntN.{ℤ}
 use lib.ListN.{length, drop}
 use Rattle.claim_months.specs.declared.Claim.{Claim}
-use Rattle.claim_months.specs.declared.Listed.TheVariants.{Months, Refused}
 use Rattle.claim_months.specs.declared.Span.{Span}
 use Rattle.claim_months.specs.Exposure.{MonthRecord}
 use Rattle.claim_months.specs.Listing.{rows}
 use Rattle.claim_months.specs.Private.{Stands, records_in, ListedAs}
 use Rattle.claim_months.proofs.Rows.{months-are}
 use Rattle.claim_months.proofs.listing.list_checked.Goals as goal
+use Rattle.std.specs.Prelude.{Err, Ok}
 
-no_room : (rs : List MonthRecord) (old : List ℤ) → length old < 6 * length rs → ListedAs rs old old (Refused 10)
+no_room : (rs : List MonthRecord) (old : List ℤ) → length old < 6 * length rs → ListedAs rs old old (Err 10)
 no_room rs old h = record { answer = rw (lt-leb (6 * length rs) (length old)); list = rw (lt-leb (6 * length rs) (length old)) }
 
 room : (rs : List MonthRecord) (old new : List ℤ) (n : ℕ) → n ≡ length rs → 6 * length rs ≤ length old
-    → new ≡ rows rs ++ drop (6 * length rs) old → ListedAs rs old new (Months n)
-room rs old new n c h e = record { answer = rw (le-leb (6 * length rs) (length old)) (ap Months c); list = rw (le-leb (6 * length rs) (length old)) e }
+    → new ≡ rows rs ++ drop (6 * length rs) old → ListedAs rs old new (Ok n)
+room rs old new n c h e = record { answer = rw (le-leb (6 * length rs) (length old)) (ap Ok c); list = rw (le-leb (6 * length rs) (length old)) e }
 
 no_rows : (old : List ℤ) → old ≡ rows [] ++ drop (6 * 0) old
 unfolding rows
 no_rows old = ap (λ (i : ℕ). drop i old) (sym (mul-zero 6))
 
-none : (rs : List MonthRecord) (old : List ℤ) → length rs ≡ 0 → ListedAs rs old old (Months 0)
+none : (rs : List MonthRecord) (old : List ℤ) → length rs ≡ 0 → ListedAs rs old old (Ok 0)
 none [] old h = room [] old old 0 refl (omega arith) (no_rows old)
 none (r ∷ rs) old h = absurd (omega arith)
 

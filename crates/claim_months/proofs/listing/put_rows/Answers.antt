@@ -6,7 +6,7 @@ use native.Mathlib.Omega.{arith}
 use lib.ListN.{length}
 use Rattle.claim_months.specs.declared.Span.{Span}
 use Rattle.claim_months.specs.Private.{Placed}
-use Rattle.claim_months.proofs.Checked.{later-placed, offset-is, from-placed}
+use Rattle.claim_months.proofs.Checked.{later-placed, from-placed}
 use Rattle.claim_months.proofs.Rows.{months-are}
 use Rattle.claim_months.proofs.RowTurns.{given, bounds, begin-within, none-written, month-low, month-high, placed, next-late, row-bounds, next-written, all-written}
 use Rattle.claim_months.proofs.listing.put_rows.Goals as goal
@@ -32,7 +32,7 @@ start_in-requires c =
     let g = given c.args.claim c.args.window c.args.months _ _ p.sound_window p.months_for p.months_nonzero c.exposed_from-from.ensures c.exposed_to.ensures _ p.of_claim.stands in
     let w = c.loop-place.invariant.written _ _ _ _ g in
     record {
-      offset_bound = offset-is _ _ p.of_claim.stands;
+      of_claim = p.of_claim;
       first_month_le_index = omega (arith, month-low _ _ _ _ _ _ _ _ _ g _ _ _ _ w c.loop-place-test.true);
       index_le_end_month = omega (arith, month-high _ _ _ _ _ _ _ _ _ g _ _ _ _ w c.loop-place-test.true);
     }

@@ -2,7 +2,7 @@
 -- else the one that holds the day started in the calendar month before.
 -- Assumes nothing.
 use Prim.Native.Nat.{ℕ, ◌+◌, ◌-◌, ◌≤◌, ◌<◌}
-use mathlib.Core.Path.{◌≡◌, ap}
+use mathlib.Core.Path.{◌≡◌, refl, ap}
 use lib.Dec.{leb}
 use Rattle.calendar.specs.Calendar.{month_start, first_month}
 use Rattle.basics.proofs.Tests.{tests, by}
@@ -12,14 +12,13 @@ use Rattle.claim_months.specs.declared.Claim.{Claim}
 use Rattle.claim_months.specs.declared.ClaimMonth.{ClaimMonth}
 use Rattle.claim_months.specs.declared.MonthDay.{MonthDay}
 use Rattle.claim_months.specs.ClaimMonths.{bcd_month, start_in, month_first, month_last}
-use Rattle.claim_months.specs.Private.{Placed, Stands, start_of, HoldsDay}
-use Rattle.claim_months.proofs.Months.{bcd-low, start-bcd, start-low, start-high}
-use Rattle.claim_months.proofs.Checked.{claim-sound, offset-is, bcd-day-is, bcd-month-is, start_is}
+use Rattle.claim_months.specs.Private.{Placed, Stands, OfClaim, start_of, HoldsDay}
+use Rattle.claim_months.proofs.Months.{bcd-low, start-bcd, start-low, start-high, start-step}
+use Rattle.claim_months.proofs.Checked.{claim-sound, bcd-day-is, bcd-month-is, start_is}
 use Rattle.claim_months.proofs.month.claim_month.Goals as goal
 
 -- the month of the day x isn't before BCD's
 record Held (k : CheckedClaim) (x : MonthDay) : Type 0 where
-  offset : k.offset ≤ 25
   low : first_month ≤ k.bcd.month
   from : k.bcd.month ≤ x.month
   high : x.month < 25200
@@ -39,7 +38,6 @@ module _ (c : Claim) (k : CheckedClaim) (s : Stands c k) (x : MonthDay) (placed 
       let o : bcd_month c < x.month + 1 =
       months-order (bcd_month c) (x.month + 1) (omega (tests, month-of-low x.day.0)) (omega (tests, start-bcd c d, ap (λ (i : ℕ). month_start (i + 1)) e)) in
       record {
-        offset = offset-is c k s;
         low = omega tests;
         from = omega tests;
         high = omega (tests, month-of-high x.day.0 placed.high);
@@ -69,6 +67,12 @@ module _ (c : Claim) (k : CheckedClaim) (s : Stands c k) (x : MonthDay) (placed 
       let r = held in
       omega (tests, start_is c k s (x.month + 1), start-low c (claim-sound c k s).bcd-date (x.month + 1))
 
+  -- and a claim month has 31 days or fewer
+  at_most_31 : (i j : ℕ) → first_month ≤ i → i + 1 ≡ j → start_of k j ≤ start_of k i + 31
+  at_most_31 i j h e =
+      let r = start-step c (claim-sound c k s).bcd-date i h in
+      rw (← e) (omega (tests, start_is c k s i, start_is c k s (i + 1)))
+
   -- claim month p + 1 starts in calendar month i, and the next one in j
   holds : (i j : ℕ) (r : ClaimMonth) → i + 1 ≡ j → r.place + k.bcd.month ≡ i → r.first.0 ≡ start_of k i → r.last.0 + 1 ≡ start_of k j
       → r.first.0 ≤ x.day.0 → x.day.0 ≤ r.last.0 → HoldsDay c x.day.0 r
@@ -84,76 +88,106 @@ module _ (c : Claim) (k : CheckedClaim) (s : Stands c k) (x : MonthDay) (placed 
         to = h;
       }
 
+module _ {k : CheckedClaim} {x : MonthDay} (o : OfClaim k) (placed : Placed x) (bcd-first : k.bcd.day.0 ≤ x.day.0) where
+  month : Held k x
+  month = held _ _ o.stands _ placed bcd-first
+
+  earlier : {n : ℕ} → n ≡ start_of k x.month → x.day.0 < n → k.bcd.month < x.month
+  earlier e h = later _ _ o.stands _ placed bcd-first (omega tests)
+
 pub start_in-start-requires : goal.start_in-start-requires
 start_in-start-requires c =
-    let month : Held c.args.claim c.args.at = let o = c.requires.of_claim in held _ _ o.stands _ c.requires.placed c.requires.day_le_day in
-    let m = month in
-    record { offset_bound = m.offset; first_month_le_index = omega tests; index_le_end_month = omega tests }
+    let p = c.requires in
+    let m = month p.of_claim p.placed p.day_le_day in
+    record { of_claim = c.requires.of_claim; first_month_le_index = omega tests; index_le_end_month = omega tests }
 
 pub overflow_sub-result : goal.overflow_sub-result
 overflow_sub-result c =
-    let month : Held c.args.claim c.args.at = let o = c.requires.of_claim in held _ _ o.stands _ c.requires.placed c.requires.day_le_day in
-    let earlier : let a = c.args in a.claim.bcd.month < a.at.month = later _ _ c.requires.of_claim.stands _ c.requires.placed c.requires.day_le_day (omega (tests, c.start_in-start.ensures)) in
-    let a = earlier in omega tests
+    let p = c.requires in
+    let m = month p.of_claim p.placed p.day_le_day in
+    let a = earlier p.of_claim p.placed p.day_le_day c.start_in-start.ensures c.if-at-start.true in
+    omega tests
 
 pub overflow_sub-result-then-at-start : goal.overflow_sub-result-then-at-start
 overflow_sub-result-then-at-start c =
-    let month : Held c.args.claim c.args.at = let o = c.requires.of_claim in held _ _ o.stands _ c.requires.placed c.requires.day_le_day in
-    let earlier : let a = c.args in a.claim.bcd.month < a.at.month = later _ _ c.requires.of_claim.stands _ c.requires.placed c.requires.day_le_day (omega (tests, c.start_in-start.ensures)) in
-    let a = earlier in omega tests
+    let p = c.requires in
+    let m = month p.of_claim p.placed p.day_le_day in
+    let a = earlier p.of_claim p.placed p.day_le_day c.start_in-start.ensures c.if-at-start.true in
+    omega tests
 
 pub overflow_sub-index : goal.overflow_sub-index
 overflow_sub-index c =
-    let month : Held c.args.claim c.args.at = let o = c.requires.of_claim in held _ _ o.stands _ c.requires.placed c.requires.day_le_day in
-    let earlier : let a = c.args in a.claim.bcd.month < a.at.month = later _ _ c.requires.of_claim.stands _ c.requires.placed c.requires.day_le_day (omega (tests, c.start_in-start.ensures)) in
-    let a = earlier in omega tests
+    let p = c.requires in
+    let m = month p.of_claim p.placed p.day_le_day in
+    let a = earlier p.of_claim p.placed p.day_le_day c.start_in-start.ensures c.if-at-start.true in
+    omega tests
 
 pub start_in-requires : goal.start_in-requires
 start_in-requires c =
-    let month : Held c.args.claim c.args.at = let o = c.requires.of_claim in held _ _ o.stands _ c.requires.placed c.requires.day_le_day in
-    let earlier : let a = c.args in a.claim.bcd.month < a.at.month = later _ _ c.requires.of_claim.stands _ c.requires.placed c.requires.day_le_day (omega (tests, c.start_in-start.ensures)) in
-    let m = month in
-    let a = earlier in
-    record { offset_bound = m.offset; first_month_le_index = omega tests; index_le_end_month = omega tests }
+    let p = c.requires in
+    let m = month p.of_claim p.placed p.day_le_day in
+    let a = earlier p.of_claim p.placed p.day_le_day c.start_in-start.ensures c.if-at-start.true in
+    record { of_claim = c.requires.of_claim; first_month_le_index = omega tests; index_le_end_month = omega tests }
+
+pub invariant_of-result : goal.invariant_of-result
+invariant_of-result c =
+    let p = c.requires in
+    let m = month p.of_claim p.placed p.day_le_day in
+    let a = earlier p.of_claim p.placed p.day_le_day c.start_in-start.ensures c.if-at-start.true in
+    let i = c.args.at.month in
+    let o = c.requires.of_claim in
+    let g = at_most_31 _ _ o.stands _ c.requires.placed c.requires.day_le_day (i - 1) i (omega tests) (omega tests) in
+    record { at_most_31_days = omega (tests, g, c.start_in.ensures, c.start_in-start.ensures) }
 
 pub returns-then-at-start : goal.returns-then-at-start
 returns-then-at-start c =
-    let month : Held c.args.claim c.args.at = let o = c.requires.of_claim in held _ _ o.stands _ c.requires.placed c.requires.day_le_day in
-    let earlier : let a = c.args in a.claim.bcd.month < a.at.month = later _ _ c.requires.of_claim.stands _ c.requires.placed c.requires.day_le_day (omega (tests, c.start_in-start.ensures)) in
+    let p = c.requires in
+    let m = month p.of_claim p.placed p.day_le_day in
+    let a = earlier p.of_claim p.placed p.day_le_day c.start_in-start.ensures c.if-at-start.true in
     λ d k.
     let i = c.args.at.month in
-    let m = month in
-    let a = earlier in
     let b = before d _ k _ c.requires.placed c.requires.day_le_day (i - 1) (omega tests) (omega tests) in
     holds d _ k _ c.requires.placed c.requires.day_le_day (i - 1) i _ (omega tests) (omega tests) c.start_in.ensures (omega tests) (omega tests) (omega tests)
 
 pub overflow_sub-result-2 : goal.overflow_sub-result-2
 overflow_sub-result-2 c =
-    let month : Held c.args.claim c.args.at = let o = c.requires.of_claim in held _ _ o.stands _ c.requires.placed c.requires.day_le_day in
-    let m = month in omega tests
+    let p = c.requires in
+    let m = month p.of_claim p.placed p.day_le_day in
+    omega tests
 
 pub overflow_add-index : goal.overflow_add-index
 overflow_add-index c =
-    let month : Held c.args.claim c.args.at = let o = c.requires.of_claim in held _ _ o.stands _ c.requires.placed c.requires.day_le_day in
-    let m = month in omega tests
+    let p = c.requires in
+    let m = month p.of_claim p.placed p.day_le_day in
+    omega tests
 
 pub start_in-requires-2 : goal.start_in-requires-2
 start_in-requires-2 c =
-    let month : Held c.args.claim c.args.at = let o = c.requires.of_claim in held _ _ o.stands _ c.requires.placed c.requires.day_le_day in
-    let m = month in
-    record { offset_bound = m.offset; first_month_le_index = omega tests; index_le_end_month = omega tests }
+    let p = c.requires in
+    let m = month p.of_claim p.placed p.day_le_day in
+    record { of_claim = c.requires.of_claim; first_month_le_index = omega tests; index_le_end_month = omega tests }
 
 pub overflow_sub-result-3 : goal.overflow_sub-result-3
 overflow_sub-result-3 c =
     let next : c.args.at.day.0 < c.start_in-2.result.0 = omega (tests, c.start_in-2.ensures, after _ _ c.requires.of_claim.stands _ c.requires.placed c.requires.day_le_day) in
     let n = next in omega tests
 
+pub invariant_of-result-2 : goal.invariant_of-result-2
+invariant_of-result-2 c =
+    let p = c.requires in
+    let m = month p.of_claim p.placed p.day_le_day in
+    let i = c.args.at.month in
+    let o = c.requires.of_claim in
+    let g = at_most_31 _ _ o.stands _ c.requires.placed c.requires.day_le_day i (i + 1) (omega tests) refl in
+    record { at_most_31_days = omega (tests, g, c.start_in-2.ensures, c.start_in-start.ensures) }
+
 pub returns : goal.returns
 returns c =
-    let month : Held c.args.claim c.args.at = let o = c.requires.of_claim in held _ _ o.stands _ c.requires.placed c.requires.day_le_day in
+    let p = c.requires in
+    let m = month p.of_claim p.placed p.day_le_day in
     let next : c.args.at.day.0 < c.start_in-2.result.0 = omega (tests, c.start_in-2.ensures, after _ _ c.requires.of_claim.stands _ c.requires.placed c.requires.day_le_day) in
     λ d k.
     let i = c.args.at.month in
     let n = next in
     let f = c.start_in-start.ensures in
-    holds d _ k _ c.requires.placed c.requires.day_le_day i (i + 1) _ (omega tests) (omega (tests, month)) f (omega tests) (omega tests) (omega tests)
+    holds d _ k _ c.requires.placed c.requires.day_le_day i (i + 1) _ (omega tests) (omega tests) f (omega tests) (omega tests) (omega tests)

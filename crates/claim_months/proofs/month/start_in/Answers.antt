@@ -1,43 +1,48 @@
 -- `claim_months::month::start_in` meets its contract: the days that are found are those of a month of the calendar.
 -- Assumes nothing.
 use Prim.Native.Nat.{ℕ, ◌+◌, ◌-◌}
-use mathlib.Core.Path.{◌≡◌, ap, ◌∙◌}
-use mathlib.Core.Bool.{true, false}
+use mathlib.Core.Path.{◌≡◌, refl}
 use native.Mathlib.Omega.{arith}
-use Rattle.basics.specs.declared.Day.{Day}
 use Rattle.calendar.specs.Calendar.{month_start, index_length}
 use Rattle.calendar.proofs.Laws.{index-length-low, months-rise, end-month}
-use Rattle.claim_months.specs.declared.CheckedClaim.{CheckedClaim}
-use Rattle.claim_months.specs.Private.{day_in, start_of}
-use Rattle.claim_months.proofs.Checked.{first_found, last_found}
+use Rattle.claim_months.specs.declared.Starts.{Starts}
+use Rattle.claim_months.specs.declared.Starts.TheVariants.{After, Before}
+use Rattle.claim_months.specs.Private.{start_at}
+use Rattle.claim_months.proofs.Checked.{first_found, last_found, days_off, days-off-is}
 use Rattle.claim_months.proofs.month.start_in.Goals as goal
 
-from_end : (k : CheckedClaim) (i : ℕ) → k.backward ≡ true → start_of k i ≡ month_start i + (index_length i - 1) - k.offset
-unfolding start_of
-from_end k i h = rw h
+from_start : (s : Starts) (n i : ℕ) → s ≡ After n → (start_at s i ≡ month_start i + n) × (days_off s ≡ n)
+unfolding start_at
+from_start s n i h = rw h (refl, refl)
 
-from_start : (k : CheckedClaim) (i : ℕ) → k.backward ≡ false → start_of k i ≡ month_start i + k.offset
-unfolding start_of
-from_start k i h = rw h
+from_end : (s : Starts) (n i : ℕ) → s ≡ Before n → (start_at s i ≡ month_start i + (index_length i - 1) - n) × (days_off s ≡ n)
+unfolding start_at
+from_end s n i h = rw h (refl, refl)
 
-pub overflow_sub-start : goal.overflow_sub-start
-overflow_sub-start c =
-    let month-end : let i = c.args.index in c.known_day.result.0 ≡ month_start i + (index_length i - 1) = ap (λ (d : Day). d.0) (c.known_day.ensures ∙ ap day_in c.last_day.ensures) ∙ last_found c.args.index c.requires.first_month_le_index c.requires.index_le_end_month in
-    omega (arith, month-end, index-length-low c.args.index)
-
-pub returns-then-claim : goal.returns-then-claim
-returns-then-claim c =
-    let month-end : let i = c.args.index in c.known_day.result.0 ≡ month_start i + (index_length i - 1) = ap (λ (d : Day). d.0) (c.known_day.ensures ∙ ap day_in c.last_day.ensures) ∙ last_found c.args.index c.requires.first_month_le_index c.requires.index_le_end_month in
+pub overflow_add-result : goal.overflow_add-result
+overflow_add-result c =
     let a = c.args in
-    omega (arith, month-end, from_end a.claim a.index c.if-claim.true)
+    let o = c.requires.of_claim in
+    let s = from_start _ _ a.index c.in-After.is in
+    let month-start : c.unwrap_or.result.0 ≡ month_start a.index = rw (c.unwrap_or.ensures, c.first_day.ensures) (first_found a.index c.requires.first_month_le_index c.requires.index_le_end_month) in
+    omega (arith, end-month, months-rise a.index 25200 (omega arith) (omega arith), days-off-is _ _ o.stands)
 
-pub overflow_add-start : goal.overflow_add-start
-overflow_add-start c =
-    let month-start : c.known_day-2.result.0 ≡ month_start c.args.index = ap (λ (d : Day). d.0) (c.known_day-2.ensures ∙ ap day_in c.first_day.ensures) ∙ first_found c.args.index c.requires.first_month_le_index c.requires.index_le_end_month in
-    omega (arith, month-start, end-month, months-rise c.args.index 25200 (omega arith) (omega arith))
-
-pub returns : goal.returns
-returns c =
-    let month-start : c.known_day-2.result.0 ≡ month_start c.args.index = ap (λ (d : Day). d.0) (c.known_day-2.ensures ∙ ap day_in c.first_day.ensures) ∙ first_found c.args.index c.requires.first_month_le_index c.requires.index_le_end_month in
+pub returns-in-After : goal.returns-in-After
+returns-in-After c =
     let a = c.args in
-    omega (arith, month-start, from_start a.claim a.index c.if-claim.false)
+    let month-start : c.unwrap_or.result.0 ≡ month_start a.index = rw (c.unwrap_or.ensures, c.first_day.ensures) (first_found a.index c.requires.first_month_le_index c.requires.index_le_end_month) in
+    omega (arith, month-start, (from_start _ _ a.index c.in-After.is).0)
+
+pub overflow_sub-result : goal.overflow_sub-result
+overflow_sub-result c =
+    let a = c.args in
+    let o = c.requires.of_claim in
+    let s = from_end _ _ a.index c.in-Before.is in
+    let month-end : c.unwrap_or-in-Before.result.0 ≡ month_start a.index + (index_length a.index - 1) = rw (c.unwrap_or-in-Before.ensures, c.last_day.ensures) (last_found a.index c.requires.first_month_le_index c.requires.index_le_end_month) in
+    omega (arith, month-end, index-length-low a.index, days-off-is _ _ o.stands)
+
+pub returns-in-Before : goal.returns-in-Before
+returns-in-Before c =
+    let a = c.args in
+    let month-end : c.unwrap_or-in-Before.result.0 ≡ month_start a.index + (index_length a.index - 1) = rw (c.unwrap_or-in-Before.ensures, c.last_day.ensures) (last_found a.index c.requires.first_month_le_index c.requires.index_le_end_month) in
+    omega (arith, month-end, (from_end _ _ a.index c.in-Before.is).0)

@@ -1,6 +1,5 @@
 -- `claim_months::sound_claim::month_index` meets its contract: a date has a month from 1 on.
 -- Assumes nothing.
-use mathlib.Core.Path.{refl}
 use native.Mathlib.Omega.{arith}
 use Rattle.calendar.specs.Calendar.{month_index}
 use Rattle.calendar.proofs.Laws.{date-bounds}
@@ -11,4 +10,4 @@ overflow_sub-result c = omega (arith, date-bounds _ c.requires)
 
 pub returns : goal.returns
 unfolding month_index
-returns c = refl
+returns c = rw (c.from.ensures, c.from-2.ensures)
