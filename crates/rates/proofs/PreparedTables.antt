@@ -64,7 +64,7 @@ module _ (xs : List ℕ) (m : ℕ) where
   unfolding numbers_of_cell
   behind-numbers = rw behind-length (take_at xs (m ∷ []) (length xs) refl)
 
-  behind-marked : (k : ℕ) → marked (xs ++ (m ∷ [])) k ≡ (length_sound (length xs) && eqb m k)
+  pub behind-marked : (k : ℕ) → marked (xs ++ (m ∷ [])) k ≡ (length_sound (length xs) && eqb m k)
   unfolding mark
   behind-marked k = marked-is (xs ++ (m ∷ [])) k ∙ rw (behind-length, get_or_at xs m [] 0 (length xs) refl)
 

@@ -3,19 +3,24 @@
 
 ghost use Rattle.std.specs.Prelude.{◌≡◌, ◌+◌, ◌-◌, ◌*◌, ◌≤◌, leb, length, get_or};
 ghost use Rattle.basics.specs.Limits.{cell_numbers};
+ghost use Rattle.basics.specs.Refused.{number_refused};
 ghost use Rattle.rates.specs.Rates.{place, length_sound, rate_check, rates_sound, recovery_rate, death_rate, group_of, last_of, group_last};
 ghost use Rattle.rates.specs.Private.{one_above};
 
 pub mod prepared;
 
+use basics::Duration;
 use basics::limits::{CELL_NUMBERS, LAST_DURATION};
-use basics::{Duration, refusal};
+use basics::refusal::Refusal;
 
 // A cell of a rate table. A unit of its own.
+// Kept: it goes beside its table: which cells a table has is what check 7 answers, so the two make no sound pair before.
 #[derive(Clone, Copy)]
 pub struct Cell(pub u32);
 
 // Whether a lent table holds rates or was prepared.
+// Kept: kind and table are two parameters, as in the definitions and in public functions; an enum that holds the table would ask callers for another type.
+// Functions without a kind, as `add` beside `add_with`, are public and promised for plain rates.
 #[derive(Clone, Copy)]
 pub enum Kind {
     Plain,
@@ -30,31 +35,24 @@ pub struct RateSums {
 }
 
 // The place of a duration among a cell's 479 rates of one kind.
+#[tactic(auto, unfolding(crate::specs::Rates::place))]
 pub(crate) fn place_of(duration: Duration) -> usize
     ensures { result ≡ place duration.0 }
 {
-    let months = duration.0;
-    if months < 2 {
-        return 0;
-    }
-    if months > LAST_DURATION {
-        return 478;
-    }
-    (months - 2) as usize
+    duration.0.min(LAST_DURATION).saturating_sub(2) as usize
 }
 
 // The rate of a cell at a duration, of the kind whose rates start `from` places into the cell; 0 past the table.
+#[tactic(auto, unfolding(crate::specs::Rates::place))]
 pub(crate) fn rate(rates: &[u32], cell: Cell, from: u16, duration: Duration) -> u32
     ensures { result ≡ get_or rates.now (cell.0 * cell_numbers + from + place duration.0) 0 }
 {
     let at = cell.0 as usize * CELL_NUMBERS + from as usize + place_of(duration);
-    if at < rates.len() {
-        return rates[at];
-    }
-    0
+    rates.get(at).copied().unwrap_or(0)
 }
 
 // The recovery rate of a cell at a duration, in millionths; 0 past the table.
+#[tactic(auto, unfolding(crate::specs::Rates::recovery_rate))]
 pub fn recovery(rates: &[u32], cell: Cell, duration: Duration) -> u32
     ensures { result ≡ recovery_rate rates.now cell.0 duration.0 }
 {
@@ -62,36 +60,28 @@ pub fn recovery(rates: &[u32], cell: Cell, duration: Duration) -> u32
 }
 
 // The death rate of a cell at a duration, in millionths; 0 past the table.
+#[tactic(auto, unfolding(crate::specs::Rates::death_rate))]
 pub fn death(rates: &[u32], cell: Cell, duration: Duration) -> u32
     ensures { result ≡ death_rate rates.now cell.0 duration.0 }
 {
     rate(rates, cell, 479, duration)
 }
 
-// What a rate leaves of 1,000,000: nothing where it is larger.
-fn left_of(rate: u32) -> u32
-    ensures { result ≡ 1000000 - rate }
-{
-    if rate > 1000000 {
-        return 0;
-    }
-    1000000 - rate
-}
-
 // Whether a recovery and a death rate are together at most 1,000,000; `&` has no branch.
 fn are_sound(recovery: u32, death: u32) -> bool
     ensures { result ≡ leb (recovery + death) 1000000 }
 {
-    (recovery <= 1000000) & (death <= left_of(recovery))
+    (recovery <= 1000000) & (death <= 1000000u32.saturating_sub(recovery))
 }
 
 // Whether recovery and death rate of a cell's part are together at most 1,000,000 at each duration from 2 to 480. With no early exit and no branch the
-// loop looks at several durations at once.
+// loop looks at several durations at once. Kept: the part is a slice, as the callers cut it from a table.
 pub(crate) fn sound(part: &[u32]) -> bool
     requires { length part.now ≡ cell_numbers }
     ensures { result ≡ rates_sound part.now 0 }
 {
     let mut all = true;
+    // Kept: the halves are one list, and the definition tests it duration by duration: a `zip` has to cut it first, and says no more.
     for i in 0..479 {
         all &= are_sound(part[i], part[479 + i]);
     }
@@ -99,49 +89,42 @@ pub(crate) fn sound(part: &[u32]) -> bool
 }
 
 // Whether a table may have so many numbers: 958 for each of 1 to 1,024 cells.
+#[tactic(auto, using(std::proofs::lemmas::Bool::Decides::nat_tests), unfolding(crate::specs::Rates::length_sound))]
 pub(crate) fn is_table(numbers: usize) -> bool
     ensures { result ≡ length_sound numbers }
 {
-    let cells = numbers / CELL_NUMBERS;
-    if numbers % CELL_NUMBERS != 0 {
-        return false;
-    }
-    if cells < 1 {
-        return false;
-    }
-    cells <= 1024
+    numbers % CELL_NUMBERS == 0 && (1..=1024).contains(&(numbers / CELL_NUMBERS))
 }
 
-// The number of the first of the checks 6 to 8 that fails for a table and a cell, or 0.
-pub fn check(rates: &[u32], cell: Cell) -> u8
-    ensures { result ≡ rate_check rates.now cell.0 }
+// The first of the checks 6 to 8 that fails for a table and a cell.
+pub fn check(rates: &[u32], cell: Cell) -> Result<(), Refusal>
+    ensures { number_refused result ≡ rate_check rates.now cell.0 }
 {
     if !is_table(rates.len()) {
-        return refusal::RATE_TABLE;
+        return Err(Refusal::RateTable);
     }
     if cell.0 as usize >= rates.len() / CELL_NUMBERS {
-        return refusal::CELL;
+        return Err(Refusal::Cell);
     }
     let from = cell.0 as usize * CELL_NUMBERS;
     let to = from + CELL_NUMBERS;
     if sound(&rates[from..to]) {
-        return 0;
+        return Ok(());
     }
-    refusal::RATE
+    Err(Refusal::Rate)
 }
 
 // 1 where a duration is above another, else 0.
+#[tactic(auto, using(std::proofs::lemmas::Bool::Decides::nat_tests), unfolding(crate::specs::Private::one_above))]
 fn above(duration: Duration, bound: Duration) -> u8
     ensures value { result ≡ one_above bound.0 duration.0 }
     ensures upper_bound { result ≤ 1 }
 {
-    if duration.0 > bound.0 {
-        return 1;
-    }
-    0
+    u8::from(duration.0 > bound.0)
 }
 
 // The group of a duration, 1 to 5: counted, not branched to.
+// Kept: a group is a number, since it is counted, used as an index and handed over by C.
 pub fn group(duration: Duration) -> u8
     ensures { result ≡ group_of duration.0 }
 {

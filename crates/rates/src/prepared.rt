@@ -1,12 +1,14 @@
 // Preparing a table in place, and the checks and rates of a table of either kind.
 ghost use Rattle.std.specs.Prelude.{◌≡◌, ℕ, ◌+◌, ◌-◌, ◌*◌, ◌≤◌, ◌<◌, min, pos, nat_abs, ◌-ℤ◌, length, get_or};
 ghost use Rattle.basics.specs.Limits.{cell_numbers};
+ghost use Rattle.basics.specs.Refused.{number_refused};
 ghost use Rattle.rates.specs.Rates.{recovery_rate, death_rate};
 ghost use Rattle.rates.specs.Prepared.{running_from, prepared_cell, marked, prepare_check, prepare_after, prepared_check, sum_before, table_check_of, recovery_of, death_of, rates_over, part_recovery, part_death};
 
 use crate::{Cell, Kind, RateSums, check, is_table, place_of, sound};
+use basics::Duration;
 use basics::limits::CELL_NUMBERS;
-use basics::{Duration, refusal};
+use basics::refusal::Refusal;
 
 // Replaces numbers by their running sums.
 fn run_sums(numbers: &mut [u32])
@@ -15,13 +17,14 @@ fn run_sums(numbers: &mut [u32])
     ensures { numbers.new ≡ running_from 0 numbers.old }
 {
     let mut sum: u32 = 0;
-    for i in 0..numbers.len() {
-        sum += numbers[i];
-        numbers[i] = sum;
+    for number in numbers.iter_mut() {
+        sum += *number;
+        *number = sum;
     }
 }
 
 // Prepares the 958 numbers of a cell.
+// Kept: the caller cuts a slice of this length; as an array it would be tested once more, with an answer for a case that can't be.
 fn prepare_cell(cell: &mut [u32])
     requires { length cell.old ≡ cell_numbers }
     ensures { cell.new ≡ prepared_cell cell.old }
@@ -38,54 +41,52 @@ fn prepare_cell(cell: &mut [u32])
 fn is_marked(table: &[u32], mark: u32) -> bool
     ensures { result ≡ marked table.now mark }
 {
-    if table.len() < 1 {
-        return false;
+    match table.split_last() {
+        Some((last, numbers)) => is_table(numbers.len()) && *last == mark,
+        None => false,
     }
-    let last = table.len() - 1;
-    if !is_table(last) {
-        return false;
-    }
-    table[last] == mark
 }
 
-// Prepares a table in place: 0, or 6 with the table as it was.
-pub fn prepare(table: &mut [u32]) -> u8
-    ensures value { result ≡ prepare_check table.old }
+// Prepares a table in place, or refuses it with 6 and leaves it as it was.
+pub fn prepare(table: &mut [u32]) -> Result<(), Refusal>
+    ensures value { number_refused result ≡ prepare_check table.old }
     ensures table_after { table.new ≡ prepare_after table.old }
 {
     if !is_marked(table, 0) {
-        return refusal::RATE_TABLE;
+        return Err(Refusal::RateTable);
     }
     let last = table.len() - 1;
+    // Kept: of what is written through `chunks_exact_mut` a proof knows no number.
     for cell in 0..last / CELL_NUMBERS {
         let from = cell * CELL_NUMBERS;
         let to = from + CELL_NUMBERS;
         prepare_cell(&mut table[from..to]);
     }
     table[last] = 1;
-    0
+    Ok(())
 }
 
 // The checks 6 to 8 with a prepared table.
-fn check_prepared(table: &[u32], cell: Cell) -> u8
-    ensures { result ≡ prepared_check table.now cell.0 }
+fn check_prepared(table: &[u32], cell: Cell) -> Result<(), Refusal>
+    ensures { number_refused result ≡ prepared_check table.now cell.0 }
 {
     if !is_marked(table, 1) {
-        return refusal::RATE_TABLE;
+        return Err(Refusal::RateTable);
     }
     if cell.0 as usize >= (table.len() - 1) / CELL_NUMBERS {
-        return refusal::CELL;
+        return Err(Refusal::Cell);
     }
     let first = cell.0 as usize * CELL_NUMBERS;
     if table[first] > 1000000 {
-        return refusal::RATE;
+        return Err(Refusal::Rate);
     }
-    0
+    Ok(())
 }
 
-// The number of the first of the checks 6 to 8 that fails for a table of either kind and a cell, or 0.
-pub fn check_of(kind: Kind, table: &[u32], cell: Cell) -> u8
-    ensures { result ≡ table_check_of kind table.now cell.0 }
+// The first of the checks 6 to 8 that fails for a table of either kind and a cell.
+#[tactic(auto, unfolding(crate::specs::Prepared::table_check_of))]
+pub fn check_of(kind: Kind, table: &[u32], cell: Cell) -> Result<(), Refusal>
+    ensures { number_refused result ≡ table_check_of kind table.now cell.0 }
 {
     match kind {
         Kind::Plain => check(table, cell),
@@ -94,8 +95,8 @@ pub fn check_of(kind: Kind, table: &[u32], cell: Cell) -> u8
 }
 
 // The running sum before a place of the sums that start at a number; 0 before the first.
-fn sum_before(part: &[u32], at: usize, place: usize) -> u32
-    requires { at + place ≤ length part.now }
+fn sum_before(part: &[u32; CELL_NUMBERS], at: usize, place: usize) -> u32
+    requires { at + place ≤ cell_numbers }
     ensures { pos result ≡ sum_before part.now at place }
 {
     if place > 0 {
@@ -108,18 +109,18 @@ fn sum_before(part: &[u32], at: usize, place: usize) -> u32
 fn difference(number: u32, before: u32) -> i64
     ensures { result ≡ pos number -ℤ pos before }
 {
-    number as i64 - before as i64
+    i64::from(number) - i64::from(before)
 }
 
 // The sums of a cell's rates at some places from one on: one loop.
-fn plain_at(part: &[u32], first: usize, months: u16) -> RateSums
-    requires part_len { length part.now ≡ cell_numbers }
-    requires months_bound { first + months ≤ 479 }
+fn plain_at(part: &[u32; CELL_NUMBERS], first: usize, months: u16) -> RateSums
+    requires { first + months ≤ 479 }
     ensures recoveries_value { result.recoveries ≡ rates_over (λ d. pos (recovery_rate part.now 0 d)) (first + 2) months }
     ensures deaths_value { result.deaths ≡ rates_over (λ d. pos (death_rate part.now 0 d)) (first + 2) months }
 {
     let mut recoveries: u64 = 0;
     let mut deaths: u64 = 0;
+    // Kept: one index reads both halves of one list; a `zip` has to cut two parts from it first, and says no more.
     for i in 0..months as usize {
         recoveries += part[first + i] as u64;
         deaths += part[479 + first + i] as u64;
@@ -131,9 +132,8 @@ fn plain_at(part: &[u32], first: usize, months: u16) -> RateSums
 }
 
 // The same with a part of either kind: of running sums, one difference.
-fn rates_at(kind: Kind, part: &[u32], first: usize, months: u16) -> RateSums
-    requires part_len { length part.now ≡ cell_numbers }
-    requires months_bound { first + months ≤ 479 }
+fn rates_at(kind: Kind, part: &[u32; CELL_NUMBERS], first: usize, months: u16) -> RateSums
+    requires { first + months ≤ 479 }
     ensures recoveries_value { result.recoveries ≡ rates_over (recovery_of kind part.now 0) (first + 2) months }
     ensures deaths_value { result.deaths ≡ rates_over (death_of kind part.now 0) (first + 2) months }
 {
@@ -152,11 +152,7 @@ fn months_within(first: usize, months: u16) -> u16
     requires { first < 479 }
     ensures { result ≡ min months (479 - first) }
 {
-    let left = (479 - first) as u16;
-    if months < left {
-        return months;
-    }
-    left
+    months.min((479 - first) as u16)
 }
 
 // The sums of a cell's rates at some durations from one on, of the cell's part of a table of either kind: past 480 the rates of 480 again with each
@@ -167,12 +163,12 @@ pub fn rates_over(kind: Kind, part: &[u32], from: Duration, months: u16) -> Rate
     ensures recoveries_bound { nat_abs result.recoveries ≤ 4294967295 * months }
     ensures deaths_bound { nat_abs result.deaths ≤ 4294967295 * months }
 {
-    if part.len() != CELL_NUMBERS {
+    let Some(part) = part.as_array::<CELL_NUMBERS>() else {
         return RateSums {
             recoveries: 0,
             deaths: 0,
         };
-    }
+    };
     let first = place_of(from);
     let within = months_within(first, months);
     let sums = rates_at(kind, part, first, within);

@@ -6,6 +6,7 @@ ghost use Rattle.std.specs.Prelude.{◌<◌};
 mod preparing;
 
 use basics::Duration;
+use basics::refusal::number_refused;
 use rates::Cell;
 use std::io;
 use test_support::lists::counting;
@@ -16,35 +17,26 @@ fn put_checks(rt: &impl Print, table: &[u32]) -> io::Result<()> {
     put(rt, b"length")?;
     put_next(rt, table.len() as u64)?;
     put(rt, b" checks")?;
-    put_next(rt, rates::check(table, Cell(0)) as u64)?;
-    put_next(rt, rates::check(table, Cell(1)) as u64)?;
-    put_next(rt, rates::check(table, Cell(63)) as u64)?;
-    put_next(rt, rates::check(table, Cell(64)) as u64)?;
-    put_next(rt, rates::check(table, Cell(255)) as u64)?;
-    put_next(rt, rates::check(table, Cell(256)) as u64)?;
-    put_next(rt, rates::check(table, Cell(1023)) as u64)?;
-    put_next(rt, rates::check(table, Cell(1024)) as u64)?;
-    put_next(rt, rates::check(table, Cell(4294967295)) as u64)?;
+    for cell in [0, 1, 63, 64, 255, 256, 1023, 1024, u32::MAX] {
+        put_next(rt, number_refused(rates::check(table, Cell(cell))) as u64)?;
+    }
     put(rt, b"\n")
 }
 
 // The checks of the first `count` numbers of a table.
 fn put_start(rt: &impl Print, table: &[u32], count: usize) -> io::Result<()> {
-    if count <= table.len() {
-        put_checks(rt, &table[0..count])?;
+    match table.get(..count) {
+        Some(start) => put_checks(rt, start),
+        None => Ok(()),
     }
-    Ok(())
 }
 
 // The checks of tables of no cell, 1 cell, 64, 65 and 257 cells, and of one number less or more than a cell.
 fn put_lengths(rt: &impl Print, table: &[u32; 981951]) -> io::Result<()> {
-    put_start(rt, table, 0)?;
-    put_start(rt, table, 957)?;
-    put_start(rt, table, 958)?;
-    put_start(rt, table, 959)?;
-    put_start(rt, table, 61312)?;
-    put_start(rt, table, 62270)?;
-    put_start(rt, table, 246206)
+    for count in [0, 957, 958, 959, 61312, 62270, 246206] {
+        put_start(rt, table, count)?;
+    }
+    Ok(())
 }
 
 // The same where all rates are 0 but the recovery rate at a place and the death rate of the same cell and duration.
@@ -92,51 +84,27 @@ fn put_cell(rt: &impl Print, table: &[u32], cell: u32) -> io::Result<()> {
     put(rt, b"cell")?;
     put_next(rt, cell as u64)?;
     put(rt, b" rates")?;
-    put_rates(rt, table, cell, 0)?;
-    put_rates(rt, table, cell, 1)?;
-    put_rates(rt, table, cell, 2)?;
-    put_rates(rt, table, cell, 3)?;
-    put_rates(rt, table, cell, 480)?;
-    put_rates(rt, table, cell, 481)?;
-    put_rates(rt, table, cell, 4294967295)?;
+    for duration in [0, 1, 2, 3, 480, 481, u32::MAX] {
+        put_rates(rt, table, cell, duration)?;
+    }
     put(rt, b"\n")
 }
 
-fn put_group(rt: &impl Print, duration: u32) -> io::Result<()> {
-    put_next(rt, rates::group(Duration(duration)) as u64)
-}
-
-// The groups of the last duration before a cut and of the first after it.
-fn put_cut(rt: &impl Print, last: u32, first: u32) -> io::Result<()> {
-    put_group(rt, last)?;
-    put_group(rt, first)
-}
-
+// The groups of the last duration before each cut and of the first after it.
 fn put_groups(rt: &impl Print) -> io::Result<()> {
     put(rt, b"groups")?;
-    put_cut(rt, 0, 1)?;
-    put_cut(rt, 3, 4)?;
-    put_cut(rt, 24, 25)?;
-    put_cut(rt, 60, 61)?;
-    put_cut(rt, 120, 121)?;
-    put_group(rt, 4294967295)?;
+    for duration in [0, 1, 3, 4, 24, 25, 60, 61, 120, 121, u32::MAX] {
+        put_next(rt, rates::group(Duration(duration)) as u64)?;
+    }
     put(rt, b"\n")
 }
 
-// The last durations of the groups on both sides of a cut.
-fn put_last(rt: &impl Print, last: u32, first: u32) -> io::Result<()> {
-    put_next(rt, rates::group_last(Duration(last)).0 as u64)?;
-    put_next(rt, rates::group_last(Duration(first)).0 as u64)
-}
-
+// The last durations of the groups on both sides of each cut.
 fn put_lasts(rt: &impl Print) -> io::Result<()> {
     put(rt, b"lasts")?;
-    put_last(rt, 0, 1)?;
-    put_last(rt, 3, 4)?;
-    put_last(rt, 24, 25)?;
-    put_last(rt, 60, 61)?;
-    put_last(rt, 120, 121)?;
-    put_last(rt, 4294967295, 4294967295)?;
+    for duration in [0, 1, 3, 4, 24, 25, 60, 61, 120, 121, u32::MAX, u32::MAX] {
+        put_next(rt, rates::group_last(Duration(duration)).0 as u64)?;
+    }
     put(rt, b"\n")
 }
 
@@ -159,12 +127,9 @@ fn put_all_tables(rt: &impl Print, table: &mut [u32; 981951]) -> io::Result<()> 
 fn main(rt: HostRuntime) -> io::Result<()> {
     put_all_tables(&rt, &mut [0u32; 981951])?;
     let table = counting();
-    put_cell(&rt, &table, 0)?;
-    put_cell(&rt, &table, 1)?;
-    put_cell(&rt, &table, 2)?;
-    put_cell(&rt, &table, 255)?;
-    put_cell(&rt, &table, 256)?;
-    put_cell(&rt, &table, 4294967295)?;
+    for cell in [0, 1, 2, 255, 256, u32::MAX] {
+        put_cell(&rt, &table, cell)?;
+    }
     put_groups(&rt)?;
     put_lasts(&rt)?;
     preparing::put_preparing(&rt)?;

@@ -1,5 +1,6 @@
 // Prints what preparing makes of a table of 65 cells, and the checks and sums of a table of either kind.
 use basics::Duration;
+use basics::refusal::number_refused;
 use rates::prepared::{check_of, prepare, rates_over};
 use rates::{Cell, Kind};
 use std::io;
@@ -8,25 +9,20 @@ use test_support::print::{put, put_next};
 
 // Preparing the first `count` numbers of a list: the count and the answer.
 fn prepare_start(rt: &impl Print, list: &mut [u32], count: usize) -> io::Result<()> {
-    if count <= list.len() {
+    if let Some(table) = list.get_mut(..count) {
         put_next(rt, count as u64)?;
-        put_next(rt, prepare(&mut list[0..count]) as u64)?;
+        put_next(rt, number_refused(prepare(table)) as u64)?;
     }
     Ok(())
 }
 
 // The checks of the first `count` numbers of a list with the cells 0, 1, 64, 65, 1,023, 1,024 and the last number.
 fn check_start(rt: &impl Print, kind: Kind, list: &[u32], count: usize) -> io::Result<()> {
-    if count <= list.len() {
-        let table = &list[0..count];
+    if let Some(table) = list.get(..count) {
         put(rt, b"checks")?;
-        put_next(rt, check_of(kind, table, Cell(0)) as u64)?;
-        put_next(rt, check_of(kind, table, Cell(1)) as u64)?;
-        put_next(rt, check_of(kind, table, Cell(64)) as u64)?;
-        put_next(rt, check_of(kind, table, Cell(65)) as u64)?;
-        put_next(rt, check_of(kind, table, Cell(1023)) as u64)?;
-        put_next(rt, check_of(kind, table, Cell(1024)) as u64)?;
-        put_next(rt, check_of(kind, table, Cell(4294967295)) as u64)?;
+        for cell in [0, 1, 64, 65, 1023, 1024, u32::MAX] {
+            put_next(rt, number_refused(check_of(kind, table, Cell(cell))) as u64)?;
+        }
         put(rt, b"\n")?;
     }
     Ok(())
@@ -42,58 +38,39 @@ fn put_sum(rt: &impl Print, kind: Kind, part: &[u32], from: u32, months: u16) ->
 // Sums from before duration 2, up to 480 and past it.
 fn put_sums(rt: &impl Print, kind: Kind, part: &[u32]) -> io::Result<()> {
     put(rt, b" sums")?;
-    put_sum(rt, kind, part, 2, 0)?;
-    put_sum(rt, kind, part, 0, 1)?;
-    put_sum(rt, kind, part, 2, 2)?;
-    put_sum(rt, kind, part, 3, 477)?;
-    put_sum(rt, kind, part, 2, 479)?;
-    put_sum(rt, kind, part, 2, 480)?;
-    put_sum(rt, kind, part, 480, 3)?;
-    put_sum(rt, kind, part, 481, 1)?;
-    put_sum(rt, kind, part, 4294967295, 65535)?;
+    for (from, months) in [
+        (2, 0),
+        (0, 1),
+        (2, 2),
+        (3, 477),
+        (2, 479),
+        (2, 480),
+        (480, 3),
+        (481, 1),
+        (u32::MAX, u16::MAX),
+    ] {
+        put_sum(rt, kind, part, from, months)?;
+    }
     put(rt, b"\n")
 }
 
 // The sums of the numbers of a list from one up to before another, as a cell's part.
 fn put_part(rt: &impl Print, kind: Kind, list: &[u32], from: usize, to: usize) -> io::Result<()> {
-    if from <= to {
-        if to <= list.len() {
-            put(rt, b"part")?;
-            put_next(rt, from as u64)?;
-            put_next(rt, to as u64)?;
-            put_sums(rt, kind, &list[from..to])?;
-        }
+    if let Some(part) = list.get(from..to) {
+        put(rt, b"part")?;
+        put_next(rt, from as u64)?;
+        put_next(rt, to as u64)?;
+        put_sums(rt, kind, part)?;
     }
     Ok(())
 }
 
 // The sums of the first cell and the 65th, and of lists that aren't of 958 numbers.
 fn put_parts(rt: &impl Print, kind: Kind, list: &[u32]) -> io::Result<()> {
-    put_part(rt, kind, list, 0, 958)?;
-    put_part(rt, kind, list, 61312, 62270)?;
-    put_part(rt, kind, list, 0, 0)?;
-    put_part(rt, kind, list, 0, 957)?;
-    put_part(rt, kind, list, 0, 959)
-}
-
-fn put_wide(rt: &impl Print, number: u32) -> io::Result<()> {
-    put_next(rt, number as u64)
-}
-
-fn put_number(rt: &impl Print, list: &[u32], at: usize) -> io::Result<()> {
-    if at < list.len() {
-        put_wide(rt, list[at])?;
+    for (from, to) in [(0, 958), (61312, 62270), (0, 0), (0, 957), (0, 959)] {
+        put_part(rt, kind, list, from, to)?;
     }
     Ok(())
-}
-
-// The same of an array.
-fn put_prepare(rt: &impl Print, table: &mut [u32; 62271], count: usize) -> io::Result<()> {
-    prepare_start(rt, table, count)
-}
-
-fn put_checks(rt: &impl Print, kind: Kind, table: &[u32; 62271], count: usize) -> io::Result<()> {
-    check_start(rt, kind, table, count)
 }
 
 fn put_table(rt: &impl Print, kind: Kind, table: &[u32; 62271], count: usize) -> io::Result<()> {
@@ -104,20 +81,13 @@ fn put_table(rt: &impl Print, kind: Kind, table: &[u32; 62271], count: usize) ->
 // Numbers of the first, the second and the 65th cell, first and last of each kind of rates, and the mark.
 fn put_numbers(rt: &impl Print, table: &[u32; 62271]) -> io::Result<()> {
     put(rt, b"numbers")?;
-    put_number(rt, table, 0)?;
-    put_number(rt, table, 1)?;
-    put_number(rt, table, 477)?;
-    put_number(rt, table, 478)?;
-    put_number(rt, table, 479)?;
-    put_number(rt, table, 957)?;
-    put_number(rt, table, 958)?;
-    put_number(rt, table, 1436)?;
-    put_number(rt, table, 1915)?;
-    put_number(rt, table, 61312)?;
-    put_number(rt, table, 61790)?;
-    put_number(rt, table, 61791)?;
-    put_number(rt, table, 62269)?;
-    put_number(rt, table, 62270)?;
+    for at in [
+        0, 1, 477, 478, 479, 957, 958, 1436, 1915, 61312, 61790, 61791, 62269, 62270,
+    ] {
+        if let Some(number) = table.get(at) {
+            put_next(rt, *number as u64)?;
+        }
+    }
     put(rt, b"\n")
 }
 
@@ -125,12 +95,9 @@ fn put_numbers(rt: &impl Print, table: &[u32; 62271]) -> io::Result<()> {
 fn put_lengths(rt: &impl Print, list: [u32; 62271]) -> io::Result<[u32; 62271]> {
     let mut table = list;
     put(rt, b"prepare")?;
-    put_prepare(rt, &mut table, 0)?;
-    put_prepare(rt, &mut table, 1)?;
-    put_prepare(rt, &mut table, 958)?;
-    put_prepare(rt, &mut table, 960)?;
-    put_prepare(rt, &mut table, 62271)?;
-    put_prepare(rt, &mut table, 62271)?;
+    for count in [0, 1, 958, 960, 62271, 62271] {
+        prepare_start(rt, &mut table, count)?;
+    }
     put(rt, b"\n")?;
     Ok(table)
 }
@@ -149,11 +116,11 @@ pub(crate) fn put_preparing(rt: &impl Print) -> io::Result<()> {
     table[61790] = 3;
     table[62269] = 5;
     put_table(rt, Kind::Plain, &table, 62270)?;
-    put_checks(rt, Kind::Prepared, &table, 62271)?;
+    check_start(rt, Kind::Prepared, &table, 62271)?;
     let after = put_lengths(rt, table)?;
     put_numbers(rt, &after)?;
-    put_checks(rt, Kind::Plain, &after, 62271)?;
-    put_checks(rt, Kind::Prepared, &after, 62270)?;
+    check_start(rt, Kind::Plain, &after, 62271)?;
+    check_start(rt, Kind::Prepared, &after, 62270)?;
     put_table(rt, Kind::Prepared, &after, 62271)
 }
 

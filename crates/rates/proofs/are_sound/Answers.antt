@@ -15,4 +15,4 @@ by_left r d l e =
     (λ p. sym (lt-leb (r + d) 1000000 (omega tests)))
 
 pub returns : goal.returns
-returns c = let a = c.args in by_left a.recovery a.death _ c.left_of.ensures
+returns c = let a = c.args in by_left a.recovery a.death _ c.saturating_sub.ensures

@@ -1,22 +1,33 @@
--- `rates::prepared::is_marked` meets its contract: each way out has the definition's tests that lead there. Assumes nothing.
-use Prim.Native.Nat.{◌-◌}
-use mathlib.Core.Path.{◌≡◌}
+-- `rates::prepared::is_marked` meets its contract: the last number is the mark, and the others are those of the cells. Assumes nothing.
+use Prim.Native.Nat.{ℕ, ◌+◌, ◌-◌}
+use mathlib.Core.Path.{◌≡◌, sym, ◌∙◌}
+use mathlib.Core.Bool.{true, false, ◌&&◌}
+use mathlib.Core.List.{List, [], ◌∷◌, ◌++◌}
 use native.Mathlib.Omega.{arith}
+use lib.Dec.{eqb}
 use lib.ListN.{length}
 use Rattle.rates.specs.Rates.{length_sound}
-use Rattle.rates.specs.Prepared.{mark}
+use Rattle.rates.specs.Prepared.{marked}
 use Rattle.rates.proofs.Preparing.{marked-is}
+use Rattle.rates.proofs.PreparedTables.{behind-marked}
 use Rattle.rates.proofs.prepared.is_marked.Goals as goal
 
-pub returns-then-table-lt1 : goal.returns-then-table-lt1
+-- numbers with a mark behind them
+last-marks : (table rest : List ℕ) (last m : ℕ) → table ≡ rest ++ (last ∷ []) → marked table m ≡ (length_sound (length rest) && eqb last m)
+last-marks table rest last m e = rw (e, behind-marked rest last m)
+
+pub returns-then-is_table : goal.returns-then-is_table
+returns-then-is_table c =
+    let sound : length_sound (length c.in-Some.numbers.now) ≡ true = sym c.is_table.ensures ∙ c.if-is_table.true in
+    sym (rw sound at (last-marks c.args.table.now c.in-Some.numbers.now c.in-Some.last.now c.args.mark c.in-Some.ensures.cases.0))
+
+pub returns-else-is_table : goal.returns-else-is_table
+returns-else-is_table c =
+    let sound : length_sound (length c.in-Some.numbers.now) ≡ false = sym c.is_table.ensures ∙ c.if-is_table.false in
+    c.if-is_table.false ∙ sym (rw sound at (last-marks c.args.table.now c.in-Some.numbers.now c.in-Some.last.now c.args.mark c.in-Some.ensures.cases.0))
+
+pub returns-in-None : goal.returns-in-None
 unfolding length_sound
-returns-then-table-lt1 c =
-    let none : length c.args.table.now - 1 ≡ 0 = omega arith in
+returns-in-None c =
+    let none : length c.args.table.now - 1 ≡ 0 = omega (arith, c.in-None.ensures.cases) in
     simp (marked-is, none)
-
-pub returns-then-not-is_table : goal.returns-then-not-is_table
-returns-then-not-is_table c = simp (marked-is, ← c.is_table.ensures, c.if-not-is_table.true)
-
-pub returns : goal.returns
-unfolding mark
-returns c = simp (marked-is, ← c.is_table.ensures, c.if-not-is_table.false)

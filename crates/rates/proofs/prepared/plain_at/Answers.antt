@@ -1,11 +1,13 @@
 -- `rates::prepared::plain_at` meets its contract. The loop's invariant: the sums have the rates of the i places from the first on. The measure is what
 -- is left of the months. Assumes nothing.
-use Prim.Native.Nat.{◌+◌, ◌≤◌, ◌<◌}
+use Prim.Native.Nat.{◌+◌, ◌<◌}
 use mathlib.Core.Path.{◌≡◌, refl, ◌∙◌}
 use native.Mathlib.Omega.{arith}
 use lib.ListN.{get_or}
-use mir.Syntax.{w64}
+use mir.Syntax.{w32, w64}
+use mir.Val.{Fits}
 use mir.Facts.{to_z_pos}
+use borrow.Author.Rules.{rules}
 use Rattle.basics.specs.Series.{sum_to}
 use Rattle.rates.specs.Rates.{recovery_rate, death_rate}
 use Rattle.rates.specs.Prepared.{rates_over}
@@ -18,8 +20,8 @@ loop-i-init c = (omega arith, refl, omega arith, omega arith, refl, refl)
 
 pub loop-i-preserved : goal.loop-i-preserved
 loop-i-preserved c =
-    let recovery-high : get_or c.args.part.now (c.args.first + c.loop-i.i) 0 ≤ 4294967295 = omega (arith, c.type_inv.part (c.args.first + c.loop-i.i)) in
-    let death-high : get_or c.args.part.now (479 + c.args.first + c.loop-i.i) 0 ≤ 4294967295 = omega (arith, c.type_inv.part (479 + c.args.first + c.loop-i.i)) in
+    let recovery-high : Fits w32 (get_or c.args.part.now (c.args.first + c.loop-i.i) 0) = search rules in
+    let death-high : Fits w32 (get_or c.args.part.now (479 + c.args.first + c.loop-i.i) 0) = search rules in
     let l = c.loop-i in
     let a = c.args in
     let h : a.first + l.i < 479 = omega arith in (

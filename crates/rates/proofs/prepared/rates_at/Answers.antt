@@ -17,7 +17,7 @@ returns-in-Prepared-clause-recoveries_value c =
     let a = c.args in
     rw c.in-Prepared.is
     (to_z-of_z {w = w64} (record { sfits = c.difference.type_inv })
-    ∙ difference-is a.part.now 0 a.first a.months _ _ _ c.requires.months_bound c.difference.ensures c.sum_before.ensures c.sum_before-in-Prepared.ensures)
+    ∙ difference-is a.part.now 0 a.first a.months _ _ _ c.requires c.difference.ensures c.sum_before.ensures c.sum_before-in-Prepared.ensures)
 
 pub returns-in-Prepared-clause-deaths_value : goal.returns-in-Prepared-clause-deaths_value
 unfolding recovery_of death_of
@@ -25,5 +25,5 @@ returns-in-Prepared-clause-deaths_value c =
     let a = c.args in
     rw c.in-Prepared.is
     (to_z-of_z {w = w64} (record { sfits = c.difference-in-Prepared.type_inv })
-    ∙ difference-is a.part.now 479 a.first a.months _ _ _ c.requires.months_bound c.difference-in-Prepared.ensures c.sum_before-in-Prepared-2.ensures
+    ∙ difference-is a.part.now 479 a.first a.months _ _ _ c.requires c.difference-in-Prepared.ensures c.sum_before-in-Prepared-2.ensures
     c.sum_before-in-Prepared-3.ensures)
