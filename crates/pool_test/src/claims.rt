@@ -28,14 +28,11 @@ fn closed(
 ) -> Claim {
     Claim {
         number: 2,
-        disability: date(disability),
-        bcd: date(bcd),
         termination: date(termination),
         maximum: date(maximum),
         status: 1,
         code,
-        cell,
-        benefit,
+        ..still_open(disability, bcd, cell, benefit)
     }
 }
 

@@ -2,6 +2,7 @@
 ghost use Rattle.std.specs.Prelude.{◌<◌};
 
 use crate::figures::{figures, put_same};
+use basics::refusal::number_in;
 use calendar::Day;
 use claim_months::Window;
 use std::io;
@@ -50,12 +51,13 @@ pub(crate) fn edges(rt: &impl Print) -> io::Result<()> {
     windows(rt)?;
     claims(rt)?;
     counts(rt)?;
-    about(rt, b"thirtieths", 0, THIRTIETHS)?;
-    about(rt, b"recoveries", 1, EXPECTED)?;
-    about(rt, b"deaths", 2, EXPECTED)?;
-    about(rt, b"weighted thirtieths", 3, WEIGHTED_THIRTIETHS)?;
-    about(rt, b"weighted recoveries", 4, WEIGHTED_EXPECTED)?;
-    about(rt, b"weighted deaths", 5, WEIGHTED_EXPECTED)
+    // Thirtieths of group 3, expected recoveries of group 4, expected deaths of group 1, and the weighted ones.
+    about(rt, b"thirtieths", 16, THIRTIETHS)?;
+    about(rt, b"recoveries", 30, EXPECTED)?;
+    about(rt, b"deaths", 7, EXPECTED)?;
+    about(rt, b"weighted thirtieths", 56, WEIGHTED_THIRTIETHS)?;
+    about(rt, b"weighted recoveries", 70, WEIGHTED_EXPECTED)?;
+    about(rt, b"weighted deaths", 47, WEIGHTED_EXPECTED)
 }
 
 // A study of a window with claims taken and zero sums.
@@ -71,13 +73,12 @@ fn made(first: u32, last: u32, taken: u32) -> Study {
 }
 
 // A study of ten days with one claim, and a number at a place of its sums.
+// Kept: `place < 80`, here and below, as each call writes its place as a number.
 fn with_number(place: usize, number: i64) -> Study
     requires { place < 80 }
 {
     let mut study = made(0, 9, 1);
-    let mut sums = study.sums;
-    sums[place] = number;
-    study.sums = sums;
+    study.sums[place] = number;
     study
 }
 
@@ -86,8 +87,8 @@ fn show(rt: &impl Print, one: Study, other: Study) -> io::Result<()> {
     let answer = one.join(other);
     let after = figures(answer.study);
     put(rt, b" refused")?;
-    put_next(rt, answer.refused as u64)?;
-    if answer.refused != 0 {
+    put_next(rt, number_in(answer.refused) as u64)?;
+    if answer.refused.is_some() {
         put(rt, b" first")?;
         put_same(rt, &after, &figures(one))?;
     } else {
@@ -100,15 +101,14 @@ fn put_sums(rt: &impl Print, list: &[u64; 83]) -> io::Result<()> {
     put(rt, b" taken")?;
     put_next_signed(rt, list[2])?;
     put(rt, b" sums")?;
-    put_next_signed(rt, list[19])?;
-    put_next_signed(rt, list[40])?;
-    put_next_signed(rt, list[33])?;
-    put_next_signed(rt, list[10])?;
+    for figure in [list[19], list[40], list[33], list[10]] {
+        put_next_signed(rt, figure)?;
+    }
     put(rt, b" weighted")?;
-    put_next_signed(rt, list[59])?;
-    put_next_signed(rt, list[80])?;
-    put_next_signed(rt, list[73])?;
-    put_next_signed(rt, list[50])
+    for figure in [list[59], list[80], list[73], list[50]] {
+        put_next_signed(rt, figure)?;
+    }
+    Ok(())
 }
 
 // Bad windows, unequal ones and equal ones, with claims taken in the second that alone are refused 9 or not.
@@ -134,11 +134,9 @@ fn window(
     taken: u32,
 ) -> io::Result<()> {
     put(rt, b"windows")?;
-    put_next(rt, first as u64)?;
-    put_next(rt, last as u64)?;
-    put_next(rt, other_first as u64)?;
-    put_next(rt, other_last as u64)?;
-    put_next(rt, taken as u64)?;
+    for number in [first, last, other_first, other_last, taken] {
+        put_next(rt, number as u64)?;
+    }
     show(
         rt,
         made(first, last, 0),
@@ -148,16 +146,21 @@ fn window(
 
 // Up to 500,000 claims together, past them, and past 32 bits.
 fn claims(rt: &impl Print) -> io::Result<()> {
-    taken(rt, 250000, 250000)?;
-    taken(rt, 250000, 250001)?;
-    taken(rt, 500000, 0)?;
-    taken(rt, 0, 500000)?;
-    taken(rt, 500000, 1)?;
-    taken(rt, 500001, 0)?;
-    taken(rt, 0, 500001)?;
-    taken(rt, 4294967295, 1)?;
-    taken(rt, 1, 4294967295)?;
-    taken(rt, 4294967295, 4294967295)
+    for (one, other) in [
+        (250000, 250000),
+        (250000, 250001),
+        (500000, 0),
+        (0, 500000),
+        (500000, 1),
+        (500001, 0),
+        (0, 500001),
+        (u32::MAX, 1),
+        (1, u32::MAX),
+        (u32::MAX, u32::MAX),
+    ] {
+        taken(rt, one, other)?;
+    }
+    Ok(())
 }
 
 fn taken(rt: &impl Print, one: u32, other: u32) -> io::Result<()> {
@@ -186,56 +189,43 @@ fn counts(rt: &impl Print) -> io::Result<()> {
 
 // A count of limits in group 5.
 fn count(rt: &impl Print, one: i64, other: i64) -> io::Result<()> {
-    put(rt, b"counts")?;
-    put_next_signed(rt, bits(one))?;
-    put_next_signed(rt, bits(other))?;
-    show(rt, with_number(37, one), with_number(37, other))
+    sum(rt, b"counts", 37, one, other)
 }
 
 fn weighted_count(rt: &impl Print, one: i64, other: i64) -> io::Result<()> {
-    put(rt, b"weighted counts")?;
-    put_next_signed(rt, bits(one))?;
-    put_next_signed(rt, bits(other))?;
-    show(rt, with_number(77, one), with_number(77, other))
+    sum(rt, b"weighted counts", 77, one, other)
 }
 
-// A number as one of six sums: thirtieths of group 3, expected recoveries of group 4, expected deaths of group 1, and the weighted ones.
-fn with_sum(field: u8, number: i64) -> Study {
-    match field {
-        0 => with_number(16, number),
-        1 => with_number(30, number),
-        2 => with_number(7, number),
-        3 => with_number(56, number),
-        4 => with_number(70, number),
-        _ => with_number(47, number),
-    }
-}
-
-fn sum(rt: &impl Print, name: &[u8], field: u8, one: i64, other: i64) -> io::Result<()> {
+// Two numbers as the sum at a place.
+fn sum(rt: &impl Print, name: &[u8], place: usize, one: i64, other: i64) -> io::Result<()>
+    requires { place < 80 }
+{
     put(rt, name)?;
     put_next_signed(rt, bits(one))?;
     put_next_signed(rt, bits(other))?;
-    show(rt, with_sum(field, one), with_sum(field, other))
+    show(rt, with_number(place, one), with_number(place, other))
 }
 
 // A sum at either bound, past it in either study or in both together, back within it, and the ends of 64 bits.
-fn about(rt: &impl Print, name: &[u8], field: u8, about: [i64; 6]) -> io::Result<()> {
-    let bound = about[0];
-    let past = about[1];
-    let low = about[2];
-    let past_low = about[3];
-    let half = about[4];
-    let more = about[5];
-    sum(rt, name, field, bound, 0)?;
-    sum(rt, name, field, bound, 1)?;
-    sum(rt, name, field, low, 0)?;
-    sum(rt, name, field, low, -1)?;
-    sum(rt, name, field, bound, low)?;
-    sum(rt, name, field, bound, bound)?;
-    sum(rt, name, field, low, low)?;
-    sum(rt, name, field, past, -1)?;
-    sum(rt, name, field, 1, past_low)?;
-    sum(rt, name, field, half, half)?;
-    sum(rt, name, field, more, half)?;
-    sum(rt, name, field, 9223372036854775807, -9223372036854775808)
+fn about(rt: &impl Print, name: &[u8], place: usize, about: [i64; 6]) -> io::Result<()>
+    requires { place < 80 }
+{
+    let [bound, past, low, past_low, half, more] = about;
+    for (one, other) in [
+        (bound, 0),
+        (bound, 1),
+        (low, 0),
+        (low, -1),
+        (bound, low),
+        (bound, bound),
+        (low, low),
+        (past, -1),
+        (1, past_low),
+        (half, half),
+        (more, half),
+        (i64::MAX, i64::MIN),
+    ] {
+        sum(rt, name, place, one, other)?;
+    }
+    Ok(())
 }

@@ -6,14 +6,15 @@ mod claims;
 mod edges;
 mod figures;
 
+use basics::refusal::number_in;
 use claims::claim;
 use edges::edges;
-use figures::{figures, put_same, put_study, put_yes, same_sums, with_study};
+use figures::{figures, put_same, put_study, same_sums, with_study};
 use std::io;
 use study::Study;
 use test_support::dates::date;
 use test_support::lists::counting;
-use test_support::print::{put, put_next, put_number};
+use test_support::print::{put, put_named, put_next, put_yes};
 
 // The studies of the five offices.
 #[derive(Clone, Copy)]
@@ -36,23 +37,23 @@ fn main(rt: HostRuntime) -> io::Result<()> {
 fn added(rt: &impl Print, study: Study, place: u32, table: &[u32; 1916]) -> io::Result<Study> {
     let answer = study.add(claim(place), table);
     put_next(rt, place as u64)?;
-    put(rt, b":")?;
-    put_number(rt, answer.refused as u64)?;
+    put_named(rt, b":", number_in(answer.refused) as u64)?;
     Ok(answer.study)
 }
 
 // The study of the four claims from a place on.
 fn office(rt: &impl Print, fresh: Study, place: u8, table: &[u32; 1916]) -> io::Result<Study> {
     let from = place as u32;
-    let one = added(rt, fresh, from, table)?;
-    let two = added(rt, one, from + 1, table)?;
-    let three = added(rt, two, from + 2, table)?;
-    added(rt, three, from + 3, table)
+    let mut study = fresh;
+    for place in from..from + 4 {
+        study = added(rt, study, place, table)?;
+    }
+    Ok(study)
 }
 
+// Kept: `study_test` has the same: `test_support`, which stands below `study`, knows no study.
 fn opened(first: u32, last: u32) -> Study {
-    let answer = Study::open(date(first), date(last));
-    answer.study
+    Study::open(date(first), date(last)).study
 }
 
 fn five_offices(
@@ -79,7 +80,7 @@ fn five_offices(
 // Both studies as one; the number refused is printed.
 fn pooled(rt: &impl Print, one: Study, other: Study) -> io::Result<Study> {
     let answer = one.join(other);
-    put_next(rt, answer.refused as u64)?;
+    put_next(rt, number_in(answer.refused) as u64)?;
     Ok(answer.study)
 }
 
@@ -161,10 +162,9 @@ fn pools(rt: &impl Print, table: &[u32; 1916]) -> io::Result<[u64; 83]> {
     let four = figures(at_once(rt, fresh, table)?);
     put_study(rt, &list)?;
     put(rt, b"equal")?;
-    put_same(rt, &list, &one)?;
-    put_same(rt, &list, &two)?;
-    put_same(rt, &list, &three)?;
-    put_same(rt, &list, &four)?;
+    for other in [one, two, three, four] {
+        put_same(rt, &list, &other)?;
+    }
     put(rt, b"\n")?;
     Ok(list)
 }

@@ -4,13 +4,14 @@
 use Prim.Native.Nat.{ℕ, zero, suc, ◌+◌, ◌-◌, ◌*◌, ◌≤◌, ◌<◌}
 use mathlib.Core.Path.{◌≡◌, refl, ap, ap₂, ◌∙◌}
 use native.Mathlib.Omega.{arith}
-use native.Mathlib.Nat.{mul-le-mul, add-zero}
+use native.Mathlib.Nat.{add-zero}
 use lib.IntN.{ℤ, pos, negsuc, nat_abs, neg_ℤ, ◌-ℤ◌, ◌*ℤ◌, +ℤ_idl}
-use mir.Syntax.{w64}
+use mir.Syntax.{w32, w64}
 use mir.Val.{SFits, to_z, of_z}
+use mir.Facts.{to_z-of_z}
 use Rattle.basics.specs.Series.{sum_to}
 use Rattle.basics.proofs.Integers.{size-sum, size-product}
-use Rattle.basics.proofs.Signed.{small-fits, read_back, result_fits, result-is}
+use Rattle.basics.proofs.Signed.{small-fits, read_back, result-is}
 use Rattle.claim_months.specs.Span.{band_sum}
 use Rattle.rates.specs.Prepared.{rates_over}
 use Rattle.rates.proofs.Laws.{over-is}
@@ -26,37 +27,8 @@ size-opposite (negsuc n) = refl
 pub size-difference : (x y : ℤ) → nat_abs (x -ℤ y) ≤ nat_abs x + nat_abs y
 size-difference x y = omega (arith, size-sum x (neg_ℤ y), size-opposite y)
 
--- the rate of one duration times thirtieths
-pub record Timed (rate : ℤ) (t : ℕ) (x : ℤ) : Type 0 where
-  pub fits : SFits w64 (back (pos t) *ℤ back x)
-  pub is : back (back (pos t) *ℤ back x) ≡ pos t *ℤ rate
-  pub size : nat_abs (back (back (pos t) *ℤ back x)) ≤ 128849018850
-
-module _ (w : ℕ → ℤ) (d t : ℕ) (x : ℤ) (low : 2 ≤ d) (few : t ≤ 30) (e : x ≡ rates_over w d 1) (s : nat_abs x ≤ 4294967295 * 1) where
-  one-rate : x ≡ w d
-  unfolding sum_to
-  one-rate = e ∙ over-is w d 1 low ∙ rw (add-zero d) (+ℤ_idl (w d))
-
-  product-size : nat_abs (pos t *ℤ x) ≤ 128849018850
-  product-size =
-      let h : nat_abs x ≤ 4294967295 = omega arith in
-      let g : t * nat_abs x ≤ 30 * 4294967295 = mul-le-mul few h in
-      omega (arith, size-product (pos t) x)
-
-  product_is : back (back (pos t) *ℤ back x) ≡ pos t *ℤ x
-  product_is = result-is ◌*ℤ◌ (pos t) x (omega arith) (omega arith) (omega (arith, product-size))
-
-  pub timed : Timed (w d) t x
-  timed =
-      record {
-        fits = result_fits ◌*ℤ◌ (pos t) x (omega arith) (omega arith) (omega (arith, product-size));
-        is = product_is ∙ ap (λ (z : ℤ). pos t *ℤ z) one-rate;
-        size = rw product_is product-size;
-      }
-
 -- 30 times a sum over m months, less two numbers
 pub record Less (x y z : ℤ) (m : ℕ) : Type 0 where
-  pub whole-fits : SFits w64 (pos 30 *ℤ back x)
   pub first_fits : SFits w64 (back (pos 30 *ℤ back x) -ℤ back y)
   pub both-fits : SFits w64 (back (back (pos 30 *ℤ back x) -ℤ back y) -ℤ back z)
   pub is : back (back (back (pos 30 *ℤ back x) -ℤ back y) -ℤ back z) ≡ pos 30 *ℤ x -ℤ y -ℤ z
@@ -91,7 +63,6 @@ module _ (x y z : ℤ) (m : ℕ) (some : 0 < m) (few : m ≤ 1800) (hx : nat_abs
   pub less : Less x y z m
   less =
       record {
-        whole-fits = result_fits ◌*ℤ◌ (pos 30) x (omega arith) (omega arith) (omega (arith, whole-size));
         first_fits = rw first_step (small-fits (whole -ℤ y) (omega (arith, first-size)));
         both-fits = rw both-step (small-fits (whole -ℤ y -ℤ z) (omega (arith, both-size)));
         is = both_is;
@@ -99,7 +70,35 @@ module _ (x y z : ℤ) (m : ℕ) (some : 0 < m) (few : m ≤ 1800) (hx : nat_abs
       }
 
 -- where the three are a band's parts, it is the band
-pub band-is : (w : ℕ → ℤ) (d m b s : ℕ) (x y z : ℤ) → 2 ≤ d → x ≡ rates_over w d m → y ≡ pos b *ℤ w d → z ≡ pos s *ℤ w (d + (m - 1))
-    → pos 30 *ℤ x -ℤ y -ℤ z ≡ band_sum w d m b s
+pub record Band (w : ℕ → ℤ) (d m b s : ℕ) (x y z : ℤ) : Type 0 where
+  pub first_fits : SFits w64 (back (pos 30 *ℤ back x) -ℤ back y)
+  pub both-fits : SFits w64 (back (back (pos 30 *ℤ back x) -ℤ back y) -ℤ back z)
+  pub is : back (back (back (pos 30 *ℤ back x) -ℤ back y) -ℤ back z) ≡ band_sum w d m b s
+  pub size : nat_abs (back (back (back (pos 30 *ℤ back x) -ℤ back y) -ℤ back z)) ≤ 400000000000 * m
+
+-- the rates over one duration are its rate
+pub one-rate : (w : ℕ → ℤ) (d : ℕ) → 2 ≤ d → rates_over w d 1 ≡ w d
+unfolding sum_to
+one-rate w d low = over-is w d 1 low ∙ rw (add-zero d) (+ℤ_idl (w d))
+
+-- what the first or the last month lacks: thirtieths times the rate of one duration
+module _ (w : ℕ → ℤ) (d t : ℕ) (y : ℤ) (low : 2 ≤ d) (few : t ≤ 30) where
+  counted : to_z w32 t ≡ pos t
+  counted = to_z-of_z {w = w32} (record { sfits = omega arith })
+
+  lacked : y ≡ to_z w32 t *ℤ rates_over w d 1 → y ≡ pos t *ℤ w d
+  lacked e = e ∙ ap₂ ◌*ℤ◌ counted (one-rate w d low)
+
+  lacked-size : nat_abs y ≤ 4294967295 * nat_abs (to_z w32 t) → nat_abs y ≤ 128849018850
+  lacked-size h = let e = rw counted at h in omega (arith, e)
+
+pub banded : (w : ℕ → ℤ) (d m b s : ℕ) (x y z : ℤ) → 2 ≤ d → 0 < m → m ≤ 1800 → b ≤ 30 → s ≤ 30 → x ≡ rates_over w d m → nat_abs x ≤ 4294967295 * m
+    → y ≡ to_z w32 b *ℤ rates_over w d 1 → nat_abs y ≤ 4294967295 * nat_abs (to_z w32 b) → z ≡ to_z w32 s *ℤ rates_over w (d + (m - 1)) 1
+    → nat_abs z ≤ 4294967295 * nat_abs (to_z w32 s) → Band w d m b s x y z
 unfolding band_sum
-band-is w d m b s x y z low p q r = λ i. pos 30 *ℤ (p ∙ over-is w d m low) i -ℤ q i -ℤ r i
+banded w d m b s x y z low some few hb hs ex hx ey hy ez hz =
+    let l : Less x y z m = less x y z m some few hx (lacked-size w d b y low hb hy) (lacked-size w (d + (m - 1)) s z (omega arith) hs hz) in
+    let p = ex ∙ over-is w d m low in
+    let q = lacked w d b y low hb ey in
+    let r = lacked w (d + (m - 1)) s z (omega arith) hs ez in
+    record { first_fits = l.first_fits; both-fits = l.both-fits; is = l.is ∙ (λ i. pos 30 *ℤ p i -ℤ q i -ℤ r i); size = l.size }

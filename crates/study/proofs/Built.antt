@@ -20,7 +20,7 @@ use Rattle.claim_months.specs.Windows.{window_sound, window_check}
 use Rattle.claim_months.proofs.SpanAnswers.{window-passes}
 use Rattle.rates.specs.Rates.{rate_check}
 use Rattle.study.specs.declared.Study.{Study}
-use Rattle.study.specs.declared.Answer.{Answer}
+use Rattle.study.specs.Answers.{Answer}
 use Rattle.study.specs.Sums.{none, plus}
 use Rattle.study.specs.Study.{share_of, sum_over, study_of, fresh, has_room, room_check, add_check, with_claim, added, own_refusal, accepted}
 use Rattle.study.specs.Demand3.{occurrences, IsOrder, nth_claim, after, given_to}

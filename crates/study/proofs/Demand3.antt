@@ -16,7 +16,6 @@ use Rattle.basics.proofs.Integers.{plus-minus}
 use Rattle.calendar.specs.declared.Date.{Date}
 use Rattle.claim_months.specs.declared.Claim.{Claim}
 use Rattle.claim_months.specs.declared.Window.{Window}
-use Rattle.claim_months.specs.declared.MaybeWindow.{MaybeWindow}
 use Rattle.claim_months.specs.Claim.{termination_day, category, weight}
 use Rattle.claim_months.specs.Exposure.{month_records, closed_in}
 use Rattle.claim_months.specs.Windows.{window_sound, dates_window, between, Parts, total, EveryPart, NoPart, ExactlyOnePart}
@@ -26,7 +25,7 @@ use Rattle.claim_months.proofs.Closing.{closing_duration, closings-value, closed
 use Rattle.rates.specs.Rates.{recovery_rate, death_rate, group_of}
 use Rattle.rates.proofs.Laws.{group-low, group-high}
 use Rattle.study.specs.declared.Study.{Study}
-use Rattle.study.specs.declared.Answer.{Answer}
+use Rattle.study.specs.Answers.{Answer}
 use Rattle.study.specs.Sums.{group_at, column_at, is_count, ClosingPlace, times_at, none, plus}
 use Rattle.study.specs.Study.{count_in_group, closing_count, figure, share_of, sum_over, study_of, fresh, opened_with, opened, added, own_refusal, accepted}
 use Rattle.study.specs.Demand3.{StudyRun, run_window, occurrences, Opens, nth_claim, after, given_to, last_study, given_at, answer_at, CountedClosed, LeavesClosings, WeighsClosings, closes_in, Demand3}
@@ -36,11 +35,12 @@ use Rattle.study.proofs.SumOver.{All, order-length}
 use Rattle.study.proofs.Capacity.{Accepted, accepted-sound, records-at}
 use Rattle.study.proofs.Totals.{built-total}
 use Rattle.study.proofs.Built.{fresh-built, added-built, Given, given-built, last_built, with_one_more}
+use Rattle.std.specs.Prelude.{Result}
 
 -- opening accepts the window between two dates in order, and its study is fresh
 pub opens-window : (b e : Date) → (opened b e).refused ≡ 0 → (dates_window b e ≡ true) × ((opened b e).study ≡ fresh (between b e))
 unfolding opened opened_with
-opens-window b e = windowed b e (λ (m : MaybeWindow). (opened_with m).refused ≡ 0 → (dates_window b e ≡ true) × ((opened_with m).study ≡ fresh (between b e)))
+opens-window b e = windowed b e (λ (m : Result Window ℕ). (opened_with m).refused ≡ 0 → (dates_window b e ≡ true) × ((opened_with m).study ≡ fresh (between b e)))
     (λ d z. (d, refl)) (λ d z. absurd (omega tests))
 
 opens-sound : (n : ℕ) (r : StudyRun) → Opens n r → window_sound (run_window r).first.0 (run_window r).last.0 ≡ true

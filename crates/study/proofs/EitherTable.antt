@@ -21,7 +21,7 @@ use Rattle.rates.specs.declared.Kind.TheVariants.{Plain, Prepared}
 use Rattle.rates.specs.Prepared.{table_check_of, recovery_of, death_of, prepared_of}
 use Rattle.rates.proofs.PreparedTables.{same-table}
 use Rattle.study.specs.declared.Study.{Study}
-use Rattle.study.specs.declared.Answer.{Answer}
+use Rattle.study.specs.Answers.{Answer}
 use Rattle.study.specs.Sums.{plus, within}
 use Rattle.study.specs.Study.{record_sums, share_of, room_check, add_check, with_claim, added}
 use Rattle.study.specs.PreparedAdding.{share_with, add_check_with, added_with, SameAdding, lent_study, room_for, added_to_lent}

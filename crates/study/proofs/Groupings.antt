@@ -9,7 +9,7 @@ use Rattle.basics.proofs.Tests.{tests}
 use Rattle.basics.proofs.Checks.{then_next}
 use Rattle.claim_months.specs.declared.Claim.{Claim}
 use Rattle.claim_months.proofs.Parts.{parts-map, parts-every, every_map}
-use Rattle.study.specs.declared.Answer.{Answer}
+use Rattle.study.specs.Answers.{Answer}
 use Rattle.study.specs.Study.{study_of}
 use Rattle.study.specs.Moves.{remaining_after, allowed_after, moved_all, Dates, dates_of, Accepted}
 use Rattle.study.specs.Joining.{joined}

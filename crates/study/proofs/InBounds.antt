@@ -1,21 +1,27 @@
 -- Sums within bounds, as one test and place by place.
 -- Assumes nothing.
-use Prim.Native.Nat.{ℕ, zero-le, ◌+◌, ◌*◌, ◌≤◌, ◌<◌}
-use mathlib.Core.Path.{◌≡◌, refl}
-use mathlib.Core.Bool.{Bool, true}
-use mathlib.Core.List.{List}
+use Prim.Native.Nat.{ℕ, zero, suc, ◌+◌, ◌*◌, ◌≤◌, ◌<◌}
+use mathlib.Core.Path.{◌≡◌, refl, sym, ap, ap₂, ◌∙◌}
+use mathlib.Core.Bool.{Bool, true, ◌&&◌, and_assoc}
+use mathlib.Core.List.{List, map, [], ◌∷◌}
 use lib.Dec.{leb, ltb, eqb}
-use lib.IntN.{ℤ, pos, nat_abs, ◌-ℤ◌}
+use lib.IntN.{ℤ, nat_abs}
 use lib.Signed.{non_neg}
 use native.Mathlib.Nat.{mul-le-mul, mul-le-mul_left}
+use native.Mathlib.Nat.{add-zero}
 use native.Mathlib.Numerals.{add-one}
 use borrow.Author.Tests.{le-leb, leb-true}
+use Rattle.std.proofs.Math.Bool.{and-true}
+use Rattle.std.specs.List.{list_all, range_with_len}
+use Rattle.std.proofs.lemmas.List.Folds.{list_all-append, list_all-map}
+use Rattle.std.proofs.lemmas.List.FromFn.{map-range_with_len_more}
 use Rattle.basics.specs.Pick.{pick}
 use Rattle.basics.specs.Limits.{most_claims, most_thirtieths, most_expected, most_benefit}
 use Rattle.basics.specs.Tables.{every_place}
 use Rattle.basics.proofs.Tests.{tests, by, and_left, and_right}
-use Rattle.basics.proofs.Integers.{sub_is, size-sub}
 use Rattle.basics.proofs.Tables.{every-at, every-is}
+use Rattle.study.specs.declared.bounds.Bounds.{Bounds}
+use Rattle.study.specs.Private.{bound_in, counts_in_bounds, group_in_bounds}
 use Rattle.study.specs.Sums.{column_at, is_count, times_at, column_bound, in_bounds, all_in_bounds, within}
 use Rattle.study.proofs.Algebra.{at}
 
@@ -51,6 +57,14 @@ module _ (bound : ℕ → ℕ) (s : List ℤ) where
   unfolding all_in_bounds
   all-is h = every-is 80 _ h
 
+-- a group's columns: its thirtieths, its counts, both of its expected sums
+pub group_tests : (n : ℕ) (b : Bounds) (s : List ℤ) (first : ℕ)
+    → group_in_bounds n b s first
+    ≡ (((leb (nat_abs (at s first)) (n * b.thirtieths) && counts_in_bounds (n * b.count) s first) && leb (nat_abs (at s (first + 6))) (n * b.expected))
+    && leb (nat_abs (at s (first + 7))) (n * b.expected))
+unfolding group_in_bounds counts_in_bounds every_place in_bounds bound_in is_count
+group_tests n b s first = rw (add-zero first) (simp (and-true, and_assoc))
+
 -- wider bounds
 pub all-wider : (b b' : ℕ → ℕ) (s : List ℤ) → ((column : ℕ) → b column ≤ b' column) → all_in_bounds b s ≡ true → all_in_bounds b' s ≡ true
 all-wider b b' s h a =
@@ -78,11 +92,13 @@ module _ (s : List ℤ) (h : within s ≡ true) (k : ℕ) (l : k < 80) where
       let z = within-size in
       omega tests
 
--- the size of −n, as the code has it
-pub opposite-size : (n : ℕ) → nat_abs (pos 0 -ℤ pos n) ≤ n
-opposite-size n = rw (← sub_is 0 n) (size-sub 0 n n zero-le (omega tests))
-
--- a test that holds at the first k places and at place k
-pub every_more : (k : ℕ) (f : ℕ → Bool) → every_place k f ≡ true → f k ≡ true → every_place (k + 1) f ≡ true
+-- a test of every place, as a walk over the range of the places makes it
+pub every_in_range : (n : ℕ) (f : ℕ → Bool) → list_all f (range_with_len 0 n) ≡ every_place n f
 unfolding every_place
-every_more k f h e = rw (add-one k, h, e) refl
+every_in_range zero f = refl
+every_in_range (suc n) f =
+    sym (list_all-map (λ b. b) f (range_with_len 0 (suc n)))
+    ∙ ap (λ (m : ℕ). list_all (λ b. b) (map f (range_with_len 0 m))) (sym (add-one n))
+    ∙ ap (list_all (λ b. b)) (map-range_with_len_more f 0 n n (omega tests))
+    ∙ list_all-append (λ b. b) (map f (range_with_len 0 n)) (f n ∷ [])
+    ∙ ap₂ (λ (s t : Bool). s && t) (list_all-map (λ b. b) f (range_with_len 0 n) ∙ every_in_range n f) (and-true (f n))

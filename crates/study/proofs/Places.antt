@@ -8,6 +8,7 @@ use lib.Dec.{leb, ltb, eqb}
 use borrow.Author.Tests.{le-leb, lt-leb, lt-ltb, le-ltb, eq-eqb, ne_eqb}
 use Rattle.basics.specs.Pick.{pick}
 use Rattle.basics.proofs.Tests.{tests, by}
+use Rattle.rates.proofs.Laws.{group-low, group-high}
 use Rattle.study.specs.Sums.{group_at, column_at, is_count, times_at}
 
 -- of the places of the first set one has both
@@ -36,3 +37,6 @@ pub no-count : (column : ℕ) → (1 ≤ column → 5 < column) → is_count col
 unfolding is_count
 no-count column h =
     by (leb 1 column) (λ t. (t && leb column 5) ≡ false) (λ q. rw (lt-leb column 5 (h (omega tests))) refl) (λ q. refl)
+
+-- a group is one of five
+pub ruleset group_range = (group-low, group-high)

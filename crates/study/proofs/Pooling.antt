@@ -18,7 +18,7 @@ use Rattle.claim_months.specs.Windows.{window_sound, window_check}
 use Rattle.claim_months.proofs.SpanAnswers.{window-passes}
 use Rattle.claim_months.proofs.Parts.{parts-map, parts-every, every_map}
 use Rattle.study.specs.declared.Study.{Study}
-use Rattle.study.specs.declared.Answer.{Answer}
+use Rattle.study.specs.Answers.{Answer}
 use Rattle.study.specs.Sums.{none, plus, within}
 use Rattle.study.specs.Study.{share_of, study_of, opened}
 use Rattle.study.specs.Moves.{remaining}

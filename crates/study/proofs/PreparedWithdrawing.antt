@@ -18,7 +18,7 @@ use Rattle.rates.specs.declared.Kind.TheVariants.{Plain, Prepared}
 use Rattle.rates.specs.Prepared.{table_check_of, recovery_of, death_of, prepared_of}
 use Rattle.rates.proofs.PreparedTables.{same-table}
 use Rattle.study.specs.declared.Study.{Study}
-use Rattle.study.specs.declared.Answer.{Answer}
+use Rattle.study.specs.Answers.{Answer}
 use Rattle.study.specs.Sums.{minus}
 use Rattle.study.specs.Study.{share_of}
 use Rattle.study.specs.PreparedAdding.{share_with, lent_study}

@@ -9,7 +9,6 @@ use Rattle.basics.specs.Pick.{pick}
 use Rattle.basics.proofs.Tests.{tests, by}
 use Rattle.calendar.specs.declared.Date.{Date}
 use Rattle.calendar.specs.Calendar.{day_number}
-use Rattle.claim_months.specs.declared.MaybeWindow.{MaybeWindow}
 use Rattle.claim_months.proofs.DateWindows.{dates-sound, windowed}
 use Rattle.claim_months.proofs.Parts.{window-bounds}
 use Rattle.study.specs.declared.Study.{Study}
@@ -21,11 +20,13 @@ use Rattle.study.specs.Returned.{Returned, Returns, CallsReturn}
 use Rattle.study.proofs.Algebra.{each-shaped, none-shaped}
 use Rattle.study.proofs.LentSums.{taken-passed}
 use Rattle.study.proofs.Joins.{joins}
+use Rattle.claim_months.specs.declared.Window.{Window}
+use Rattle.std.specs.Prelude.{Result}
 
 opened-returned : (b e : Date) → Returned (opened b e).study
 unfolding opened opened_with fresh
 opened-returned b e =
-    windowed b e (λ (m : MaybeWindow). Returned (opened_with m).study)
+    windowed b e (λ (m : Result Window ℕ). Returned (opened_with m).study)
     (λ d.
     let w = window-bounds (day_number b) (day_number e) (dates-sound b e d) in
     record { first = omega (tests, w.ordered, w.last); last = w.last; taken = omega tests; sums = none-shaped })

@@ -7,13 +7,16 @@ use mathlib.Core.List.{List}
 use lib.Dec.{ltb}
 use lib.IntN.{ℤ}
 use borrow.Author.Tests.{ne_eqb, lt-ltb, le-ltb}
+use Rattle.std.specs.Prelude.{Err, Ok}
 use Rattle.basics.specs.Limits.{most_claims}
 use Rattle.basics.specs.Checks.{check, refuse_full}
+use Rattle.basics.specs.Refused.{number_of}
+use Rattle.basics.specs.declared.refusal.Refusal.{Refusal}
+use Rattle.basics.proofs.Refused.{numbered-from-1}
 use Rattle.basics.proofs.Tests.{tests}
 use Rattle.basics.proofs.Checks.{then_next, then-fails}
 use Rattle.claim_months.specs.declared.Claim.{Claim}
 use Rattle.claim_months.specs.declared.Span.{Span}
-use Rattle.claim_months.specs.declared.MaybeSpan.TheVariants.{Spanned, Refused}
 use Rattle.claim_months.specs.Claim.{weight}
 use Rattle.claim_months.specs.Span.{span_in}
 use Rattle.rates.specs.declared.Kind.{Kind}
@@ -38,9 +41,11 @@ module _ (taken : ℕ) (room : Bool) (s : List ℤ) (kind : Kind) (rates : List 
   unfolding span_sums
   left n e h = (e, rw (ne_eqb number 0 (λ z. h (e ∙ z))))
 
-  pub rates-refused : (n : ℕ) → n ≡ table_check_of kind rates cell → (n ≡ 0 → ⊥) → SpanAs n s
+  pub rates-refused : (r : Refusal) → number_of r ≡ table_check_of kind rates cell → SpanAs (number_of r) s
   unfolding span_number
-  rates-refused n e h = left n (e ∙ sym (then-fails (table_check_of kind rates cell) _ (λ z. h (e ∙ z)))) h
+  rates-refused r e =
+      let h : number_of r ≡ 0 → ⊥ = λ z. omega (tests, numbered-from-1 r, z) in
+      left (number_of r) (e ∙ sym (then-fails (table_check_of kind rates cell) _ (λ z. h (e ∙ z)))) h
 
   module _ (passed : table_check_of kind rates cell ≡ 0) where
     -- check 9 alone is left
@@ -76,12 +81,12 @@ module _ (room : Bool) (kind : Kind) (rates : List ℕ) (c : Claim) (s : Study) 
   abbrev AddedAs : ℕ → List ℤ → Type 0
   AddedAs n t = (n ≡ (added_to_lent room kind rates c s).refused) × (t ≡ (added_to_lent room kind rates c s).study.sums)
 
-  pub with-span : (sp : Span) → Spanned sp ≡ span_in c s.window.first.0 s.window.last.0 → (k n : ℕ) (t : List ℤ) → k ≡ weight c
+  pub with-span : (sp : Span) → Ok sp ≡ span_in c s.window.first.0 s.window.last.0 → (k n : ℕ) (t : List ℤ) → k ≡ weight c
       → n ≡ span_number s.taken room kind rates c.cell → t ≡ span_sums s.taken room s.sums kind rates c.cell sp k → AddedAs n t
   with-span sp m k n t e p q = (
     p ∙ sym (spanned-number room kind s c rates sp m),
     q ∙ ap (span_sums s.taken room s.sums kind rates c.cell sp) e ∙ sym (spanned-sums room kind s c rates sp m),
   )
 
-  pub without : (n : ℕ) → Refused n ≡ span_in c s.window.first.0 s.window.last.0 → AddedAs n s.sums
+  pub without : (n : ℕ) → Err n ≡ span_in c s.window.first.0 s.window.last.0 → AddedAs n s.sums
   without n m = (sym (refused-number room kind s c rates n m), ap (λ (x : Study). x.sums) (sym (refused-study room kind s c rates n m)))

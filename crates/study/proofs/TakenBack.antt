@@ -24,7 +24,7 @@ use Rattle.claim_months.proofs.SpanAnswers.{window-passes}
 use Rattle.claim_months.proofs.Parts.{parts-map, parts-every, every_map}
 use Rattle.rates.specs.Rates.{rate_check}
 use Rattle.study.specs.declared.Study.{Study}
-use Rattle.study.specs.declared.Answer.{Answer}
+use Rattle.study.specs.Answers.{Answer}
 use Rattle.study.specs.Sums.{column_at, is_count, none, plus, minus}
 use Rattle.study.specs.Study.{share_of, sum_over, study_of, opened, added, own_refusal}
 use Rattle.study.specs.Withdrawing.{withdraw_room, covers, can_withdraw, withdraw_check, without_claim, withdrawn}

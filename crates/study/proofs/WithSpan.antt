@@ -15,7 +15,6 @@ use Rattle.basics.proofs.Tables.{list-table}
 use Rattle.calendar.specs.Calendar.{last_day_number}
 use Rattle.claim_months.specs.declared.Claim.{Claim}
 use Rattle.claim_months.specs.declared.Span.{Span}
-use Rattle.claim_months.specs.declared.MaybeSpan.TheVariants.{Spanned, Refused}
 use Rattle.claim_months.specs.Claim.{claim_check, weight}
 use Rattle.claim_months.specs.Windows.{window_check}
 use Rattle.claim_months.specs.Exposure.{MonthRecord, month_records}
@@ -25,12 +24,13 @@ use Rattle.claim_months.proofs.Spans.{span-weighted, span-closings}
 use Rattle.claim_months.proofs.SpanAnswers.{exposure-checks, exposed, spanned, span-refused}
 use Rattle.rates.specs.declared.Kind.{Kind}
 use Rattle.study.specs.declared.Study.{Study}
-use Rattle.study.specs.declared.Answer.{Answer}
+use Rattle.study.specs.Answers.{Answer}
 use Rattle.study.specs.Sums.{group_at, column_at, is_count, times_at}
 use Rattle.study.specs.Study.{count_in_group, group_weight, exposure, closing_count, expected, figure, record_sums}
 use Rattle.study.specs.PreparedAdding.{share_with, lent_study, guarded_plus, add_check_told, added_to_lent}
 use Rattle.study.specs.Private.{column_rate, months_figure, closing_figure, share_by, span_figure, span_share, span_number, span_sums}
 use Rattle.study.proofs.Capacity.{records-at, records-shaped}
+use Rattle.std.specs.Prelude.{Err, Ok}
 
 abbrev pub answer : ℕ → Study → Answer
 answer n s = record { refused = n; study = s }
@@ -68,7 +68,7 @@ module _ (c : Claim) (ok : Sound c) (b e : ℕ) (h : e ≤ last_day_number) wher
       records-at recovery death n records k l ∙ ap (λ (z : ℤ). pos (times_at n k) *ℤ z) (sym (span-figure recovery death (group_at k) (column_at k)))))
 
 -- a claim that has a span passed its own checks, and weighs at most 200
-pub spanned-weight : (c : Claim) (b e : ℕ) (sp : Span) → Spanned sp ≡ span_in c b e → weight c ≤ 200
+pub spanned-weight : (c : Claim) (b e : ℕ) (sp : Span) → Ok sp ≡ span_in c b e → weight c ≤ 200
 spanned-weight c b e sp m = weight-high c (then-passed (window_check b e) (claim_check c) (sym (exposure-checks c b e) ∙ (spanned c b e sp m).0)).1
 
 module _ (room : Bool) (kind : Kind) (s : Study) (c : Claim) (rates : List ℕ) where
@@ -87,7 +87,7 @@ module _ (room : Bool) (kind : Kind) (s : Study) (c : Claim) (rates : List ℕ) 
       sym (ap (λ (n : ℕ). n then number) (exposure-checks c b e) ∙ then-assoc (window_check b e) (claim_check c) number)
 
   -- adding a claim that passes its own checks is adding its span
-  module _ (sp : Span) (m : Spanned sp ≡ span_in c s.window.first.0 s.window.last.0) where
+  module _ (sp : Span) (m : Ok sp ≡ span_in c s.window.first.0 s.window.last.0) where
     checks-are : add_check_told room kind s c rates ≡ number
     checks-are = checks ∙ then_next own number (spanned c s.window.first.0 s.window.last.0 sp m).0
 
@@ -112,7 +112,7 @@ module _ (room : Bool) (kind : Kind) (s : Study) (c : Claim) (rates : List ℕ) 
         (by (eqb number 0) (λ t. (pick t (lent_study s.window (s.taken + 1) after) s).sums ≡ pick t after s.sums) (λ q. refl) (λ q. refl))
 
   -- a claim that fails one of its own checks is refused
-  module _ (n : ℕ) (m : Refused n ≡ span_in c s.window.first.0 s.window.last.0) where
+  module _ (n : ℕ) (m : Err n ≡ span_in c s.window.first.0 s.window.last.0) where
     refused-is : add_check_told room kind s c rates ≡ n
     refused-is =
         let x = span-refused c s.window.first.0 s.window.last.0 n m in

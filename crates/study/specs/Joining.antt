@@ -7,7 +7,7 @@ use Rattle.claim_months.specs.declared.Claim.{Claim}
 use Rattle.claim_months.specs.declared.Window.{Window}
 use Rattle.claim_months.specs.Windows.{window_check, Parts, total}
 use Rattle.study.specs.declared.Study.{Study}
-use Rattle.study.specs.declared.Answer.{Answer}
+use Rattle.study.specs.Answers.{Answer}
 use Rattle.study.specs.Sums.{plus, within}
 use Rattle.study.specs.Study.{study_of, opened, study_answer, added}
 use Rattle.study.specs.Moves.{Move, times_in, remaining, Allowed, Dates, dates_of, Accepted, moved_at}

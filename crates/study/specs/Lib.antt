@@ -1,4 +1,5 @@
 -- What the study layer means: document 01's section Study, demand 3, and document 02's requests. `Private` has what only private functions' contracts cite.
+pub mod Answers
 pub mod Sums
 pub mod Study
 pub mod PreparedAdding

@@ -9,7 +9,7 @@ use Rattle.claim_months.specs.declared.Claim.{Claim}
 use Rattle.claim_months.specs.declared.Window.{Window}
 use Rattle.claim_months.specs.Windows.{between, Parts, total, EveryPart}
 use Rattle.study.specs.declared.Study.{Study}
-use Rattle.study.specs.declared.Answer.{Answer}
+use Rattle.study.specs.Answers.{Answer}
 use Rattle.study.specs.Sums.{plus}
 use Rattle.study.specs.Study.{study_of, opened, added, own_refusal}
 use Rattle.study.specs.Withdrawing.{withdrawn}

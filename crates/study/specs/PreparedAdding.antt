@@ -14,7 +14,7 @@ use Rattle.rates.specs.declared.Kind.{Kind}
 use Rattle.rates.specs.declared.Kind.TheVariants.{Plain, Prepared}
 use Rattle.rates.specs.Prepared.{table_check_of, recovery_of, death_of, prepared_of}
 use Rattle.study.specs.declared.Study.{Study}
-use Rattle.study.specs.declared.Answer.{Answer}
+use Rattle.study.specs.Answers.{Answer}
 use Rattle.study.specs.Sums.{is_count, times_at, plus, all_in_bounds, within}
 use Rattle.study.specs.Study.{record_sums, room_check, study_answer, added}
 

@@ -9,7 +9,7 @@ use Rattle.rates.specs.declared.Kind.{Kind}
 use Rattle.rates.specs.declared.Kind.TheVariants.{Plain, Prepared}
 use Rattle.rates.specs.Prepared.{table_check_of, prepared_of}
 use Rattle.study.specs.declared.Study.{Study}
-use Rattle.study.specs.declared.Answer.{Answer}
+use Rattle.study.specs.Answers.{Answer}
 use Rattle.study.specs.Sums.{minus}
 use Rattle.study.specs.Study.{study_answer}
 use Rattle.study.specs.PreparedAdding.{share_with, lent_study}

@@ -12,7 +12,7 @@ use Rattle.claim_months.specs.Windows.{window_check}
 use Rattle.claim_months.specs.Span.{span_weighted, span_closing}
 use Rattle.rates.specs.declared.Kind.{Kind}
 use Rattle.rates.specs.Prepared.{table_check_of, recovery_of, death_of}
-use Rattle.study.specs.declared.sums.Bounds.{Bounds}
+use Rattle.study.specs.declared.bounds.Bounds.{Bounds}
 use Rattle.study.specs.Sums.{group_at, column_at, is_count, times_at, in_bounds, within}
 use Rattle.study.specs.Study.{count_in_group, group_weight}
 use Rattle.study.specs.PreparedAdding.{guarded_plus}

@@ -6,7 +6,7 @@ use Rattle.calendar.specs.Calendar.{last_day_number}
 use Rattle.claim_months.specs.declared.Claim.{Claim}
 use Rattle.rates.specs.declared.Kind.{Kind}
 use Rattle.study.specs.declared.Study.{Study}
-use Rattle.study.specs.declared.Answer.{Answer}
+use Rattle.study.specs.Answers.{Answer}
 use Rattle.study.specs.Study.{opened}
 use Rattle.study.specs.PreparedAdding.{added_with}
 use Rattle.study.specs.PreparedWithdrawing.{withdrawn_with}

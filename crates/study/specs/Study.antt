@@ -1,5 +1,5 @@
 -- Document 01, Study: what a study holds, opening it and adding a claim.
-use Rattle.std.specs.Prelude.{ℕ, ◌+◌, ◌*◌, Bool, ◌&&◌, List, [], ◌∷◌, length, ltb, eqb, ℤ, pos}
+use Rattle.std.specs.Prelude.{ℕ, ◌+◌, ◌*◌, Bool, ◌&&◌, List, [], ◌∷◌, length, ltb, eqb, ℤ, pos, Err, Ok, Result}
 use Rattle.basics.specs.Pick.{pick}
 use Rattle.basics.specs.Limits.{most_claims}
 use Rattle.basics.specs.Tables.{table}
@@ -7,14 +7,12 @@ use Rattle.basics.specs.Checks.{check, ◌then◌, refuse_full}
 use Rattle.calendar.specs.declared.Date.{Date}
 use Rattle.claim_months.specs.declared.Claim.{Claim}
 use Rattle.claim_months.specs.declared.Window.{Window}
-use Rattle.claim_months.specs.declared.MaybeWindow.{MaybeWindow}
-use Rattle.claim_months.specs.declared.MaybeWindow.TheVariants.{Known, Refused}
 use Rattle.claim_months.specs.Claim.{claim_check, weight}
 use Rattle.claim_months.specs.Exposure.{MonthRecord, month_records, weighted, closings}
 use Rattle.claim_months.specs.Windows.{window_check, window_in}
 use Rattle.rates.specs.Rates.{recovery_rate, death_rate, rate_check, group_of}
 use Rattle.study.specs.declared.Study.{Study}
-use Rattle.study.specs.declared.Answer.{Answer}
+use Rattle.study.specs.Answers.{Answer}
 use Rattle.study.specs.Sums.{group_at, column_at, is_count, none, plus, times, within}
 
 -- 1 for a duration in group g, 0 for any other
@@ -81,9 +79,9 @@ abbrev pub first_day_alone : Window
 first_day_alone = record { first = record { 0 = 0 }; last = record { 0 = 0 } }
 
 -- Opening takes a window. A refused opening gives the window 1950-01-01 alone
-unfoldable pub opened_with : MaybeWindow → Answer
-opened_with (Known w) = record { refused = 0; study = fresh w }
-opened_with (Refused n) = record { refused = n; study = fresh first_day_alone }
+unfoldable pub opened_with : Result Window ℕ → Answer
+opened_with (Ok w) = record { refused = 0; study = fresh w }
+opened_with (Err n) = record { refused = n; study = fresh first_day_alone }
 
 unfoldable pub opened : Date → Date → Answer
 opened b e = opened_with (window_in b e)

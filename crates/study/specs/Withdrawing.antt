@@ -10,7 +10,7 @@ use Rattle.claim_months.specs.Claim.{claim_check}
 use Rattle.claim_months.specs.Windows.{window_check}
 use Rattle.rates.specs.Rates.{rate_check}
 use Rattle.study.specs.declared.Study.{Study}
-use Rattle.study.specs.declared.Answer.{Answer}
+use Rattle.study.specs.Answers.{Answer}
 use Rattle.study.specs.Sums.{column_at, is_count, minus, within}
 use Rattle.study.specs.Study.{share_of, study_answer}
 

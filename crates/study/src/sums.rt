@@ -1,12 +1,13 @@
 // A study's sums, one list of 80 numbers. Group g has eight places from 8 × (g − 1) on: thirtieths, the closing counts under the categories 1 to 5,
 // expected recoveries, expected deaths. The weighted set (document 02, No. 7) stands 40 places on, in the same order.
-ghost use Rattle.std.specs.Prelude.{◌≡◌, ◌&&◌, ◌||◌, ◌+◌, ◌*◌, ◌%◌, ◌≤◌, ◌<◌, leb, pos, nat_abs, length, get_or, set};
+ghost use Rattle.std.specs.Prelude.{◌≡◌, ◌&&◌, ◌||◌, ◌+◌, ◌*◌, ◌%◌, ◌≤◌, ◌<◌, leb, pos, nat_abs, get_or, set};
 ghost use Rattle.std.specs.Int.Signed.{non_neg};
 ghost use Rattle.basics.specs.Limits.{most_benefit, most_expected};
 ghost use Rattle.study.specs.Sums.{is_count, times_at, none, column_bound, all_in_bounds, within, sum_at};
 ghost use Rattle.study.specs.PreparedAdding.{room_for, guarded_sum, guarded_plus};
 ghost use Rattle.study.specs.Private.{bound_in, group_in_bounds, counts_in_bounds, share_by, one_figure};
 
+use crate::bounds::Bounds;
 use basics::limits::{MOST_BENEFIT, MOST_CLAIMS, MOST_EXPECTED, MOST_THIRTIETHS};
 
 // The columns of a group. A closing count stands in the column of its category.
@@ -16,41 +17,27 @@ pub const RECOVERIES: u8 = 6;
 
 pub const DEATHS: u8 = 7;
 
-// Bounds of a group's sums, by column.
-#[derive(Clone, Copy)]
-struct Bounds {
-    thirtieths: u64,
-    count: u64,
-    expected: u64,
-}
-
 // The sum of a group's column in the first set; 0 for any other group or column.
+#[tactic(auto, unfolding(crate::specs::Sums::sum_at))]
 pub fn sum_at(sums: &[i64; 80], group: u8, column: u8) -> i64
     ensures { result ≡ sum_at sums.now group column }
 {
-    if group < 1 {
-        return 0;
-    }
-    if group > 5 {
-        return 0;
-    }
-    if column > DEATHS {
+    if group < 1 || group > 5 || column > DEATHS {
         return 0;
     }
     sums[(8 * (group - 1) + column) as usize]
 }
 
 // Whether a column has closing counts.
+#[tactic(auto, unfolding(crate::specs::Sums::is_count))]
 pub(crate) fn is_count(column: usize) -> bool
     ensures { result ≡ is_count column }
 {
-    if column < 1 {
-        return false;
-    }
-    column <= 5
+    (1..=5).contains(&column)
 }
 
 // How many times its bound a group's sum may be: the groups of the weighted set are numbered on from those of the first.
+#[tactic(auto, unfolding(crate::specs::Sums::times_at))]
 fn times_in(group: usize) -> u64
     ensures value { result ≡ times_at most_benefit (8 * group) }
     ensures upper_bound { result ≤ most_benefit }
@@ -62,6 +49,7 @@ fn times_in(group: usize) -> u64
 }
 
 // The bound of refusal 9 in a column.
+#[tactic(auto, unfolding(crate::specs::Sums::column_bound, crate::specs::Sums::is_count))]
 fn column_bound(column: usize) -> u64
     ensures value { result ≡ column_bound column }
     ensures upper_bound { result ≤ most_expected }
@@ -85,83 +73,52 @@ pub(crate) fn bound_at(place: usize) -> u64
 }
 
 // Whether a number lies from −bound to bound.
-fn is_within(x: i64, bound: u64) -> bool
-    requires { bound ≤ most_benefit * most_expected }
+pub(crate) fn is_within(x: i64, bound: u64) -> bool
     ensures { result ≡ leb (nat_abs x) bound }
 {
-    let limit = bound as i64;
-    if x < -limit {
-        return false;
-    }
-    x <= limit
+    x.unsigned_abs() <= bound
 }
 
 // Whether a number lies from 0 to bound.
 fn is_up_to(x: i64, bound: u64) -> bool
-    requires { bound ≤ most_benefit * most_expected }
     ensures { result ≡ (leb (nat_abs x) bound && non_neg x) }
 {
-    if x < 0 {
-        return false;
-    }
-    x <= bound as i64
+    is_within(x, bound) && x >= 0
 }
 
 // Whether a group's closing counts lie from 0 to bound.
 fn counts_within(sums: &[i64; 80], at: usize, bound: u64) -> bool
-    requires at_bound { at + 8 ≤ 80 }
-    requires bound_bound { bound ≤ most_benefit * most_expected }
+    requires { at + 8 ≤ 80 }
     ensures { result ≡ counts_in_bounds bound sums.now at }
 {
-    for column in 1..6 {
-        let count = sums[at + column];
-        if !is_up_to(count, bound) {
-            return false;
-        }
-    }
-    true
+    sums[at + 1..at + 6]
+        .iter()
+        .all(|&count| is_up_to(count, bound))
 }
 
 // Whether the eight sums of a group from a place on are within some times bounds.
+#[tactic(auto, using(crate::proofs::InBounds::group_tests))]
 fn group_within(sums: &[i64; 80], at: usize, times: u64, bounds: Bounds) -> bool
     requires at_bound { at + 8 ≤ 80 }
     requires times_le_most_benefit { times ≤ most_benefit }
-    requires thirtieths_le_most_expected { bounds.thirtieths ≤ most_expected }
-    requires count_le_most_expected { bounds.count ≤ most_expected }
-    requires expected_le_most_expected { bounds.expected ≤ most_expected }
     ensures { result ≡ group_in_bounds times bounds sums.now at }
 {
-    let thirtieths = sums[at];
-    if !is_within(thirtieths, times * bounds.thirtieths) {
-        return false;
-    }
-    if !counts_within(sums, at, times * bounds.count) {
-        return false;
-    }
-    let recoveries = sums[at + RECOVERIES as usize];
-    if !is_within(recoveries, times * bounds.expected) {
-        return false;
-    }
-    let deaths = sums[at + DEATHS as usize];
-    is_within(deaths, times * bounds.expected)
+    is_within(sums[at], times * bounds.thirtieths)
+        && counts_within(sums, at, times * bounds.count)
+        && is_within(sums[at + RECOVERIES as usize], times * bounds.expected)
+        && is_within(sums[at + DEATHS as usize], times * bounds.expected)
 }
 
 // Whether all sums are within bounds, those of the weighted set within 200 times these.
+// Kept: the group's number says its bounds; `as_chunks::<8>` needs it counted beside each chunk.
 fn all_within(sums: &[i64; 80], bounds: Bounds) -> bool
-    requires thirtieths_le_most_expected { bounds.thirtieths ≤ most_expected }
-    requires count_le_most_expected { bounds.count ≤ most_expected }
-    requires expected_le_most_expected { bounds.expected ≤ most_expected }
     ensures { result ≡ all_in_bounds (bound_in bounds) sums.now }
 {
-    for group in 0..10 {
-        if !group_within(sums, 8 * group, times_in(group), bounds) {
-            return false;
-        }
-    }
-    true
+    (0..10).all(|group| group_within(sums, 8 * group, times_in(group), bounds))
 }
 
 // Whether a study's sums are within the bounds of refusal 9.
+#[tactic(auto, unfolding(crate::specs::Sums::column_bound, crate::specs::Private::bound_in))]
 pub fn has_room(sums: &[i64; 80]) -> bool
     ensures { result ≡ within sums.now }
 {
@@ -176,6 +133,7 @@ pub fn has_room(sums: &[i64; 80]) -> bool
 }
 
 // Whether a block's fifteen claims, whatever their shares, leave them there.
+#[tactic(auto, unfolding(crate::specs::PreparedAdding::spare_bound, crate::specs::Private::bound_in))]
 pub fn has_room_for_block(sums: &[i64; 80]) -> bool
     ensures { result ≡ room_for 15 sums.now }
 {
@@ -190,8 +148,8 @@ pub fn has_room_for_block(sums: &[i64; 80]) -> bool
 }
 
 // Adds an amount at a place, unless the sum is past every bound of its set: so 64 bits hold any sum.
-fn raise(sums: &mut [i64], place: usize, amount: i64, most: u64)
-    requires place_in_bounds { place < length sums.old }
+fn raise(sums: &mut [i64; 80], place: usize, amount: i64, most: u64)
+    requires place_in_bounds { place < 80 }
     requires most_value { most ≡ times_at most_benefit place * most_expected }
     requires most_bound { most ≤ most_benefit * most_expected }
     requires amount_bound { nat_abs amount ≤ 1000000000000000000 }
@@ -205,8 +163,7 @@ fn raise(sums: &mut [i64], place: usize, amount: i64, most: u64)
 }
 
 // Adds an amount to a group's column, and the amount times a weight to the same of the weighted set.
-pub(crate) fn raise_both(sums: &mut [i64], group: u8, column: u8, amount: i64, weight: u8)
-    requires sums_len { length sums.old ≡ 80 }
+pub(crate) fn raise_both(sums: &mut [i64; 80], group: u8, column: u8, amount: i64, weight: u8)
     requires le_group { 1 ≤ group }
     requires group_bound { group ≤ 5 }
     requires column_bound { column < 8 }
@@ -225,21 +182,16 @@ pub(crate) fn raise_both(sums: &mut [i64], group: u8, column: u8, amount: i64, w
 }
 
 // Zeros everywhere: the sums of a study that was opened just now.
+#[tactic(auto, unfolding(crate::specs::Sums::none, basics::specs::Tables::table))]
 pub fn clear(sums: &mut [i64; 80])
     ensures { sums.new ≡ none }
 {
-    let list = &mut sums[..];
-    for place in 0..80 {
-        list[place] = 0;
-    }
+    *sums = [0; 80];
 }
 
 // Whether sums are within the bounds of refusal 9; no look is needed where they had room to spare.
 pub fn has_still_room(spare: bool, sums: &[i64; 80]) -> bool
     ensures { result ≡ (spare || within sums.now) }
 {
-    if spare {
-        return true;
-    }
-    has_room(sums)
+    spare || has_room(sums)
 }

@@ -1,20 +1,12 @@
--- The numbers of a study: 64 bits hold them, and the sums stand behind the three before them.
+-- The numbers of a study: the sums stand behind the three before them.
 -- Assumes nothing.
-use Prim.Native.Nat.{ℕ, ◌+◌, ◌<◌}
+use Prim.Native.Nat.{ℕ, ◌+◌}
 use mathlib.Core.Path.{◌≡◌, refl, ◌∙◌}
 use mathlib.Core.List.{List, [], ◌∷◌}
-use native.Mathlib.Omega.{arith}
-use lib.IntN.{ℤ, pos}
+use lib.IntN.{ℤ}
 use lib.ListN.{set}
 use lib.Seq.{sets}
-use mir.Syntax.{w64}
-use mir.Val.{to_z, of_z}
-use mir.Facts.{to_z-of_z}
 use Rattle.basics.proofs.Stores.{run}
-
--- a number that fits is read back from its bits
-pub unsigned : (n : ℕ) → n < 4294967296 → to_z w64 (of_z w64 (pos n)) ≡ pos n
-unsigned n h = to_z-of_z {w = w64} {z = pos n} (record { sfits = omega arith })
 
 -- three numbers, and a run behind them
 pub three-and : (l f rest : List ℤ) (at : ℕ) (x y z x' y' z' : ℤ) → x ≡ x' → y ≡ y' → z ≡ z'

@@ -1,4 +1,5 @@
 // The list of claims that every study here gets.
+// Kept: `pool_test` has builders of its own, which set cell and benefit too: shared ones would ask for both at each of these lines.
 use claim_months::Claim;
 use test_support::dates::date;
 
@@ -26,14 +27,10 @@ fn still_open(disability: u32, bcd: u32) -> Claim {
 fn with_status(disability: u32, bcd: u32, termination: u32, status: u8, code: u8) -> Claim {
     Claim {
         number: 2,
-        disability: date(disability),
-        bcd: date(bcd),
         termination: date(termination),
-        maximum: date(0),
         status,
         code,
-        cell: 0,
-        benefit: 0,
+        ..still_open(disability, bcd)
     }
 }
 
@@ -44,14 +41,8 @@ fn closed(disability: u32, bcd: u32, termination: u32, code: u8) -> Claim {
 fn with_maximum(disability: u32, bcd: u32, termination: u32, maximum: u32, code: u8) -> Claim {
     Claim {
         number: 3,
-        disability: date(disability),
-        bcd: date(bcd),
-        termination: date(termination),
         maximum: date(maximum),
-        status: 1,
-        code,
-        cell: 0,
-        benefit: 0,
+        ..closed(disability, bcd, termination, code)
     }
 }
 

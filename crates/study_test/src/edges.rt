@@ -3,6 +3,7 @@ ghost use Rattle.std.specs.Prelude.{◌+◌, ◌<◌, ◌≤◌};
 
 use crate::claims::claim;
 use crate::figures::put_answer;
+use basics::refusal::number_in;
 use calendar::Day;
 use claim_months::Window;
 use std::io;
@@ -17,8 +18,8 @@ const THIRTIETHS: [i64; 6] = [
     27000000001,
     -27000000000,
     -27000000001,
-    9223372036854775807,
-    -9223372036854775808,
+    i64::MAX,
+    i64::MIN,
 ];
 
 const EXPECTED: [i64; 6] = [
@@ -26,8 +27,8 @@ const EXPECTED: [i64; 6] = [
     27000000000000001,
     -27000000000000000,
     -27000000000000001,
-    9223372036854775807,
-    -9223372036854775808,
+    i64::MAX,
+    i64::MIN,
 ];
 
 pub(crate) fn edges(rt: &impl Print, table: &[u32; 1916]) -> io::Result<()> {
@@ -53,7 +54,7 @@ fn opening(rt: &impl Print, first: u32, last: u32) -> io::Result<()> {
     let opened = Study::open(date(first), date(last));
     let study = opened.study;
     put(rt, b" refused")?;
-    put_next(rt, opened.refused as u64)?;
+    put_next(rt, number_in(opened.refused) as u64)?;
     put(rt, b" window")?;
     put_next(rt, study.window.first.0 as u64)?;
     put_next(rt, study.window.last.0 as u64)?;
@@ -63,6 +64,7 @@ fn opening(rt: &impl Print, first: u32, last: u32) -> io::Result<()> {
 }
 
 // The sums of a group from a place on: thirtieths, five counts, expected recoveries and deaths.
+// Kept: `at + 8 ≤ 80` is asked for as `study` does of a group's sums: the place is handed on as a number.
 fn with_group(
     sums: [i64; 80],
     at: usize,
@@ -75,11 +77,7 @@ fn with_group(
 {
     let mut after = sums;
     after[at] = thirtieths;
-    after[at + 1] = count;
-    after[at + 2] = count;
-    after[at + 3] = count;
-    after[at + 4] = count;
-    after[at + 5] = count;
+    after[at + 1..at + 6].fill(count);
     after[at + 6] = recoveries;
     after[at + 7] = deaths;
     after
@@ -179,6 +177,7 @@ fn sums(rt: &impl Print, table: &[u32; 1916]) -> io::Result<()> {
 
 // Each sum at a place of one field of a study: thirtieths at 0, expected recoveries at 1, expected deaths at 2.
 fn about(rt: &impl Print, field: u8, sums: [i64; 6], table: &[u32; 1916]) -> io::Result<()> {
+    // Kept: that each place is a group's is seen here, and not in a loop over places and sums.
     sum(rt, field, 0, sums[0], table)?;
     sum(rt, field, 4, sums[1], table)?;
     sum(rt, field, 2, sums[2], table)?;
@@ -205,13 +204,12 @@ pub(crate) fn with_number(place: usize, number: i64) -> Study
     requires { place < 80 }
 {
     let mut study = given();
-    let mut sums = study.sums;
-    sums[place] = number;
-    study.sums = sums;
+    study.sums[place] = number;
     study
 }
 
 // The same by field and group: thirtieths at 0, expected recoveries at 1, expected deaths at 2.
+// Kept: a field is a number and no enum, as the stored output has it (`bound` in `weights`).
 pub(crate) fn with_sum(field: u8, place: usize, sum: i64) -> Study
     requires { place < 10 }
 {
@@ -220,20 +218,6 @@ pub(crate) fn with_sum(field: u8, place: usize, sum: i64) -> Study
         1 => with_number(8 * place + 6, sum),
         _ => with_number(8 * place + 7, sum),
     }
-}
-
-// The same with the first rates of the table only.
-fn show_start(
-    rt: &impl Print,
-    before: Study,
-    place: u32,
-    table: &[u32],
-    count: usize,
-) -> io::Result<()> {
-    if count <= table.len() {
-        show(rt, before, place, &table[0..count])?;
-    }
-    Ok(())
 }
 
 // Where two checks fail, the first one's number is the answer.
@@ -247,13 +231,13 @@ fn orders(rt: &impl Print, table: &[u32; 1916]) -> io::Result<()> {
     put(rt, b"rate and full")?;
     show(rt, full(), 20, table)?;
     put(rt, b"no rates")?;
-    show_start(rt, given(), 1, table, 0)?;
+    show(rt, given(), 1, &[])?;
     put(rt, b"no rates and date")?;
-    show_start(rt, given(), 15, table, 0)?;
+    show(rt, given(), 15, &[])?;
     put(rt, b"one rate less")?;
-    show_start(rt, given(), 1, table, 1915)?;
+    show(rt, given(), 1, &table[..1915])?;
     put(rt, b"one cell")?;
-    show_start(rt, given(), 20, table, 958)?;
+    show(rt, given(), 20, &table[..958])?;
     put(rt, b"cell 256")?;
     show(rt, given(), 24, table)
 }

@@ -8,15 +8,15 @@ mod figures;
 mod weights;
 mod withdrawals;
 
+use basics::refusal::number_in;
 use claims::{CLAIMS, claim};
 use edges::edges;
 use figures::{figures, put_groups, with_study};
 use std::io;
-use std::num::wrapping_add_u32;
 use study::Study;
 use test_support::dates::date;
 use test_support::lists::{filled, same};
-use test_support::print::{put, put_next, put_number};
+use test_support::print::{put, put_named, put_next, put_yes};
 use weights::weights;
 use withdrawals::withdrawals;
 
@@ -68,11 +68,9 @@ fn list_added(
 ) -> io::Result<Study> {
     let mut after = study;
     let mut at = start;
-    let mut i: u32 = 0;
-    while i < CLAIMS {
+    for _ in 0..CLAIMS {
         after = added(rt, after, at % CLAIMS, table)?;
-        at = wrapping_add_u32(at, step);
-        i += 1;
+        at = at.wrapping_add(step);
     }
     Ok(after)
 }
@@ -83,17 +81,16 @@ fn put_window(rt: &impl Print, first: u32, last: u32) -> io::Result<()> {
     put_next(rt, last as u64)
 }
 
+// Kept: `pool_test` has the same, and `added` nearly: `test_support`, which stands below `study`, knows no study.
 pub(crate) fn opened(first: u32, last: u32) -> Study {
-    let answer = Study::open(date(first), date(last));
-    answer.study
+    Study::open(date(first), date(last)).study
 }
 
 // The study after the claim at a place, which is printed with the number refused.
 fn added(rt: &impl Print, study: Study, place: u32, table: &[u32; 1916]) -> io::Result<Study> {
     let answer = study.add(claim(place), table);
     put_next(rt, place as u64)?;
-    put(rt, b":")?;
-    put_number(rt, answer.refused as u64)?;
+    put_named(rt, b":", number_in(answer.refused) as u64)?;
     Ok(answer.study)
 }
 
@@ -113,8 +110,7 @@ fn divided(rt: &impl Print, table: &[u32; 1916]) -> io::Result<()> {
 
 fn years(rt: &impl Print, table: &[u32; 1916]) -> io::Result<[u64; 40]> {
     let mut total = [0u64; 40];
-    let mut year: u32 = 2009;
-    while year < 2018 {
+    for year in 2009..2018 {
         let study = run(
             rt,
             year * 10000 + 101,
@@ -123,9 +119,9 @@ fn years(rt: &impl Print, table: &[u32; 1916]) -> io::Result<[u64; 40]> {
             year - 2008,
             table,
         )?;
+        // The borrow checker covers no call whose array is put into `total` itself.
         let next = with_study(total, study);
         total = next;
-        year += 1;
     }
     Ok(total)
 }
@@ -166,15 +162,6 @@ fn compare(rt: &impl Print, name: &[u8], total: [u64; 40], whole: [u64; 40]) -> 
     put(rt, b" equal")?;
     put_yes(rt, same(&total, &whole))?;
     put(rt, b"\n")
-}
-
-pub(crate) fn put_yes(rt: &impl Print, yes: bool) -> io::Result<()> {
-    if yes {
-        put(rt, b" yes")?;
-    } else {
-        put(rt, b" NO")?;
-    }
-    Ok(())
 }
 
 // One claim alone, settled on the second part's first day: 8 and -1 thirtieths, and together 7.

@@ -1,14 +1,15 @@
 // The weighted set (document 02, No. 7): what a claim weighs, the parts' weighted sums, and their bounds.
 use crate::claims::claim;
 use crate::edges::{with_number, with_sum};
-use crate::figures::{figures, put_groups, same_study, weighted_figures, with_weighted};
-use crate::{opened, put_yes};
+use crate::figures::{figures, put_groups, weighted_figures, with_weighted};
+use crate::opened;
+use basics::refusal::number_in;
 use claim_months::Claim;
 use std::io;
 use study::Study;
 use test_support::lists::same;
 use test_support::numbers::bits;
-use test_support::print::{put, put_next, put_next_signed};
+use test_support::print::{put, put_next, put_next_signed, put_yes};
 
 // 200 times the largest sums that a study takes by count, and one more, above and below 0.
 const THIRTIETHS: [i64; 4] = [5400000000000, 5400000000001, -5400000000000, -5400000000001];
@@ -21,17 +22,15 @@ const EXPECTED: [i64; 4] = [
 ];
 
 pub(crate) fn weights(rt: &impl Print, table: &[u32; 1916]) -> io::Result<()> {
-    alone(rt, 0, table)?;
-    alone(rt, 1, table)?;
-    alone(rt, 2, table)?;
-    alone(rt, 200, table)?;
-    alone(rt, 201, table)?;
-    alone(rt, 255, table)?;
+    for benefit in [0, 1, 2, 200, 201, 255] {
+        alone(rt, benefit, table)?;
+    }
     parts(rt, table)?;
     bounds(rt, table)?;
-    closing(rt, 100000000, table)?;
-    closing(rt, 100000001, table)?;
-    closing(rt, -1, table)
+    for sum in [100000000, 100000001, -1] {
+        closing(rt, sum, table)?;
+    }
+    Ok(())
 }
 
 // A claim of the list with a benefit.
@@ -47,10 +46,10 @@ fn alone(rt: &impl Print, benefit: u8, table: &[u32; 1916]) -> io::Result<()> {
     put_next(rt, benefit as u64)?;
     let answer = opened(20090101, 20171231).add(weighing(1, benefit), table);
     put(rt, b" refused")?;
-    put_next(rt, answer.refused as u64)?;
+    put_next(rt, number_in(answer.refused) as u64)?;
     put(rt, b"\n")?;
     let study = answer.study;
-    if answer.refused == 0 {
+    if answer.refused.is_none() {
         put_groups(rt, &figures(study))?;
         put_groups(rt, &weighted_figures(study))?;
     }
@@ -58,8 +57,7 @@ fn alone(rt: &impl Print, benefit: u8, table: &[u32; 1916]) -> io::Result<()> {
 }
 
 pub(crate) fn with_claim(study: Study, place: u32, benefit: u8, table: &[u32; 1916]) -> Study {
-    let answer = study.add(weighing(place, benefit), table);
-    answer.study
+    study.add(weighing(place, benefit), table).study
 }
 
 // Three claims that weigh 3, 200 and 1 in a window.
@@ -86,9 +84,9 @@ fn parts(rt: &impl Print, table: &[u32; 1916]) -> io::Result<()> {
 fn show(rt: &impl Print, before: Study, table: &[u32; 1916]) -> io::Result<()> {
     let answer = before.add(weighing(1, 200), table);
     put(rt, b" refused")?;
-    put_next(rt, answer.refused as u64)?;
+    put_next(rt, number_in(answer.refused) as u64)?;
     let after = answer.study;
-    if same_study(before, after) {
+    if before == after {
         put(rt, b" unchanged\n")?;
     } else {
         put(rt, b" changed\n")?;
@@ -104,10 +102,10 @@ fn bounds(rt: &impl Print, table: &[u32; 1916]) -> io::Result<()> {
 }
 
 fn about(rt: &impl Print, field: u8, sums: [i64; 4], table: &[u32; 1916]) -> io::Result<()> {
-    bound(rt, field, sums[0], table)?;
-    bound(rt, field, sums[1], table)?;
-    bound(rt, field, sums[2], table)?;
-    bound(rt, field, sums[3], table)
+    for sum in sums {
+        bound(rt, field, sum, table)?;
+    }
+    Ok(())
 }
 
 // A weighted sum of group 3 at a bound: thirtieths at field 0, expected recoveries at 1, expected deaths at 2.

@@ -2,15 +2,16 @@
 use crate::claims::claim;
 use crate::edges::{full, given, made, with_sum};
 use crate::figures::{
-    figures, put_answer, put_groups, same_study, weighted_figures, with_study, with_weighted,
+    figures, put_answer, put_groups, weighted_figures, with_study, with_weighted,
 };
+use crate::opened;
 use crate::weights::{weighing, with_claim};
-use crate::{opened, put_yes};
+use basics::refusal::number_in;
 use claim_months::Claim;
 use std::io;
-use study::Study;
+use study::{Answer, Study};
 use test_support::lists::same;
-use test_support::print::{put, put_next, put_number};
+use test_support::print::{put, put_named, put_next, put_yes};
 
 pub(crate) fn withdrawals(rt: &impl Print, table: &[u32; 1916]) -> io::Result<()> {
     moves(rt, table)?;
@@ -21,13 +22,16 @@ pub(crate) fn withdrawals(rt: &impl Print, table: &[u32; 1916]) -> io::Result<()
 }
 
 fn put_move(rt: &impl Print, sign: &[u8], place: u32, refused: u8) -> io::Result<()> {
-    put(rt, sign)?;
-    put_number(rt, place as u64)?;
-    put(rt, b":")?;
-    put_number(rt, refused as u64)
+    put_named(rt, sign, place as u64)?;
+    put_named(rt, b":", refused as u64)
 }
 
 // The study after the claim at a place is added or withdrawn, which is printed with the number refused.
+fn after(rt: &impl Print, sign: &[u8], place: u32, answer: Answer) -> io::Result<Study> {
+    put_move(rt, sign, place, number_in(answer.refused))?;
+    Ok(answer.study)
+}
+
 fn added(
     rt: &impl Print,
     study: Study,
@@ -35,9 +39,7 @@ fn added(
     benefit: u8,
     table: &[u32; 1916],
 ) -> io::Result<Study> {
-    let answer = study.add(weighing(place, benefit), table);
-    put_move(rt, b" +", place, answer.refused)?;
-    Ok(answer.study)
+    after(rt, b" +", place, study.add(weighing(place, benefit), table))
 }
 
 fn withdrawn(
@@ -47,9 +49,12 @@ fn withdrawn(
     benefit: u8,
     table: &[u32; 1916],
 ) -> io::Result<Study> {
-    let answer = study.withdraw(weighing(place, benefit), table);
-    put_move(rt, b" -", place, answer.refused)?;
-    Ok(answer.study)
+    after(
+        rt,
+        b" -",
+        place,
+        study.withdraw(weighing(place, benefit), table),
+    )
 }
 
 // Three claims added, one of them three times, and all but two taken back.
@@ -78,14 +83,14 @@ fn undone(rt: &impl Print, first: u32, last: u32, table: &[u32; 1916]) -> io::Re
     let study = moved(rt, first, last, table)?;
     put(rt, b"as the two claims")?;
     let other = with_claim(opened(first, last), 3, 1, table);
-    put_yes(rt, same_study(study, with_claim(other, 1, 3, table)))?;
+    put_yes(rt, study == with_claim(other, 1, 3, table))?;
     put(rt, b" then")?;
     let one = withdrawn(rt, study, 3, 0, table)?;
     let none = withdrawn(rt, one, 1, 3, table)?;
     put(rt, b" as opened")?;
-    put_yes(rt, same_study(none, opened(first, last)))?;
+    put_yes(rt, none == opened(first, last))?;
     let still = withdrawn(rt, none, 1, 3, table)?;
-    put_yes(rt, same_study(none, still))?;
+    put_yes(rt, none == still)?;
     put(rt, b"\n")?;
     Ok(study)
 }
@@ -96,13 +101,8 @@ fn moves(rt: &impl Print, table: &[u32; 1916]) -> io::Result<()> {
     let b = undone(rt, 20110216, 20171231, table)?;
     put(rt, b"moves parts equal")?;
     put_yes(rt, same(&with_study(figures(a), b), &figures(whole)))?;
-    put_yes(
-        rt,
-        same(
-            &with_weighted(weighted_figures(a), b),
-            &weighted_figures(whole),
-        ),
-    )?;
+    let total = with_weighted(weighted_figures(a), b);
+    put_yes(rt, same(&total, &weighted_figures(whole)))?;
     put(rt, b"\n")
 }
 
@@ -111,7 +111,7 @@ fn show(rt: &impl Print, name: &[u8], before: Study, back: Claim, table: &[u32])
     put(rt, name)?;
     let answer = before.withdraw(back, table);
     put_answer(rt, before, answer)?;
-    if answer.refused == 0 {
+    if answer.refused.is_none() {
         put_groups(rt, &weighted_figures(answer.study))?;
     }
     Ok(())
@@ -140,10 +140,8 @@ fn closing(
     table: &[u32; 1916],
 ) -> io::Result<()> {
     let mut study = given();
-    let mut sums = study.sums;
-    sums[17] = count;
-    sums[57] = sum;
-    study.sums = sums;
+    study.sums[17] = count;
+    study.sums[57] = sum;
     show(rt, name, study, weighing(1, 200), table)
 }
 
@@ -212,27 +210,13 @@ fn bounds(rt: &impl Print, table: &[u32; 1916]) -> io::Result<()> {
     )
 }
 
-// A withdrawal with the first rates of the table only.
-fn show_start(
-    rt: &impl Print,
-    name: &[u8],
-    before: Study,
-    table: &[u32],
-    count: usize,
-) -> io::Result<()> {
-    if count <= table.len() {
-        show(rt, name, before, claim(1), &table[0..count])?;
-    }
-    Ok(())
-}
-
 // Where two checks fail, the first one's number is the answer.
 fn orders(rt: &impl Print, table: &[u32; 1916]) -> io::Result<()> {
     let empty = opened(20090101, 20171231);
     show(rt, b"window and date", made(100, 99, 0), claim(15), table)?;
     show(rt, b"status and no claims", empty, claim(16), table)?;
     show(rt, b"benefit and cell", empty, weighing(19, 201), table)?;
-    show_start(rt, b"no rates and no claims", empty, table, 0)?;
+    show(rt, b"no rates and no claims", empty, claim(1), &[])?;
     show(rt, b"cell and no claims", empty, claim(19), table)?;
     show(rt, b"rate and no claims", empty, claim(20), table)?;
     show(rt, b"rate, exactly full", full(), claim(20), table)?;

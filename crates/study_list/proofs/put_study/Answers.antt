@@ -9,11 +9,6 @@ returns-then-length-lt83 c =
     let a = c.args in let rest = no_room (a.at + 83) a.out.now _ (omega arith) in
     record { value = rest.0; out_after = rest.1 }
 
-pub returns-then-at-length : goal.returns-then-at-length
-returns-then-at-length c =
-    let a = c.args in let rest = no_room (a.at + 83) a.out.now _ (omega arith) in
-    record { value = rest.0; out_after = rest.1 }
-
 pub returns : goal.returns
 returns c =
     let a = c.args in let rest = room (a.at + 83) a.out.now _ _ (omega arith) c.store_study.ensures in

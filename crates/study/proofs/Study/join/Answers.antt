@@ -2,23 +2,27 @@
 -- Assumes nothing.
 use mathlib.Core.Path.{sym, ◌∙◌}
 use native.Mathlib.Omega.{arith}
-use Rattle.study.proofs.Joins.{Joins, joins, join-refused, join-taken}
+use lib.IntN.{◌+ℤ◌}
+use Rattle.std.proofs.Common.{rules}
+use Rattle.study.proofs.Algebra.{each-is}
+use Rattle.study.proofs.Joins.{Joins, joins, sum-fits, sum-is, join-refused, join-taken}
 use Rattle.study.proofs.Study.join.Goals as goal
 
-pub returns-then-refused-ne0 : goal.returns-then-refused-ne0
-returns-then-refused-ne0 c = let g = c.args in join-refused g.self g.other _ c.join_check-refused.ensures c.if-refused-ne0.true
+pub returns-in-Err : goal.returns-in-Err
+returns-in-Err c = c.refused.ensures ∙ join-refused c.args.self c.args.other c.in-Err.refusal c.in-Err.ensures
 
 pub overflow_add-result : goal.overflow_add-result
 overflow_add-result c =
-    let passed : let g = c.args in Joins g.self g.other = joins _ _ (sym c.join_check-refused.ensures ∙ c.if-refused-ne0.false) in
+    let passed : Joins c.args.self c.args.other = joins _ _ (sym c.in_default.ensures) in
     omega (arith, passed.few)
 
-pub plus_each-requires : goal.plus_each-requires
-plus_each-requires c =
-    let passed : let g = c.args in Joins g.self g.other = joins _ _ (sym c.join_check-refused.ensures ∙ c.if-refused-ne0.false) in
-    passed.sums
+pub each-requires : goal.each-requires
+each-requires c k l _ _ _ _ = sum-fits c.args.self c.args.other (joins _ _ (sym c.in_default.ensures)) k l
 
 pub returns : goal.returns
 returns c =
-    let g = c.args in
-    join-taken g.self g.other _ c.join_check-refused.ensures c.if-refused-ne0.false _ c.plus_each.ensures
+    let s = c.args.self in
+    let t = c.args.other in
+    let passed : Joins s t = joins _ _ (sym c.in_default.ensures) in
+    join-taken s t c.in_default.ensures c.each.result
+    (each-is ◌+ℤ◌ s.sums t.sums c.each.result c.each.ensures.result_len (λ k l. let h = c.each.ensures.by_place k l in let e = sum-is s t passed k l in search (rules, e)))

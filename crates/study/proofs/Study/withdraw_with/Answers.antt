@@ -1,69 +1,50 @@
 -- `study::Study::withdraw_with` meets its contract: what adding the claim makes of no sums is its share, and past the checks it is taken off.
 -- Assumes nothing.
-use Prim.Native.Nat.{ℕ}
-use mathlib.Core.Path.{◌≡◌}
-use mathlib.Core.Bool.{true}
-use mathlib.Core.List.{List}
+use mathlib.Core.Path.{◌∙◌}
 use native.Mathlib.Omega.{arith}
-use lib.IntN.{ℤ}
-use Rattle.basics.specs.Tables.{table, all_at_most}
+use lib.IntN.{◌-ℤ◌}
+use Rattle.std.proofs.Common.{rules}
+use Rattle.basics.specs.Tables.{table}
 use Rattle.basics.proofs.Tables.{at-most-list}
-use Rattle.study.specs.declared.Study.{Study}
 use Rattle.study.specs.Sums.{none}
-use Rattle.study.specs.PreparedAdding.{lent_study, added_to_lent}
-use Rattle.study.proofs.Withdrawals.{Withdrawable, unfit-answer, small, refused-answer, passed, withdrawn-answer}
+use Rattle.study.proofs.Algebra.{each-is}
+use Rattle.study.proofs.Withdrawals.{Withdrawable, last-passed, difference-fits, difference-is, unfit-answer, refused-answer, small, withdrawn-answer}
 use Rattle.study.proofs.Study.withdraw_with.Goals as goal
 
-pub returns-then-unfit-ne0 : goal.returns-then-unfit-ne0
+pub returns-in-Err : goal.returns-in-Err
 unfolding none table
-returns-then-unfit-ne0 c =
-    let self : Study = c.args.self in
-    let rates : List ℕ = c.args.table.now in
-    let share : List ℤ = c.add_to-unfit.new.sums in
-    let number : c.add_to-unfit.result ≡ (added_to_lent true c.args.kind rates c.args.claim (lent_study self.window 0 none)).refused = c.add_to-unfit.ensures.value in
-    let made : share ≡ (added_to_lent true c.args.kind rates c.args.claim (lent_study self.window 0 none)).study.sums = c.add_to-unfit.ensures.sums_after in
-    unfit-answer _ self _ rates _ share number made c.if-unfit-ne0.true
+returns-in-Err c = let a = c.args in c.refused.ensures ∙ unfit-answer a.kind a.self a.claim a.table.now c.in-Err.refusal c.in-Err.ensures.value
 
-pub returns-then-refused-ne0 : goal.returns-then-refused-ne0
+pub returns-in-Err-last_checks : goal.returns-in-Err-last_checks
 unfolding none table
-returns-then-refused-ne0 c =
-    let self : Study = c.args.self in
-    let rates : List ℕ = c.args.table.now in
-    let share : List ℤ = c.add_to-unfit.new.sums in
-    let number : c.add_to-unfit.result ≡ (added_to_lent true c.args.kind rates c.args.claim (lent_study self.window 0 none)).refused = c.add_to-unfit.ensures.value in
-    let made : share ≡ (added_to_lent true c.args.kind rates c.args.claim (lent_study self.window 0 none)).study.sums = c.add_to-unfit.ensures.sums_after in
-    refused-answer _ self _ rates _ share number made c.if-unfit-ne0.false _ c.last_checks-refused.ensures c.if-refused-ne0.true
+returns-in-Err-last_checks c =
+    let a = c.args in
+    c.refused-in-Err-last_checks.ensures
+    ∙ refused-answer a.kind a.self a.claim a.table.now c.in_default.ensures.value _ c.in_default.ensures.sums_after c.in-Err-last_checks.refusal
+    c.in-Err-last_checks.ensures
 
 pub overflow_sub-result : goal.overflow_sub-result
-unfolding none table
 overflow_sub-result c =
-    let self : Study = c.args.self in
-    let rates : List ℕ = c.args.table.now in
-    let share : List ℤ = c.add_to-unfit.new.sums in
-    let number : c.add_to-unfit.result ≡ (added_to_lent true c.args.kind rates c.args.claim (lent_study self.window 0 none)).refused = c.add_to-unfit.ensures.value in
-    let made : share ≡ (added_to_lent true c.args.kind rates c.args.claim (lent_study self.window 0 none)).study.sums = c.add_to-unfit.ensures.sums_after in
-    let may : Withdrawable self.taken self.sums = passed _ self _ rates _ share number made c.if-unfit-ne0.false _ c.last_checks-refused.ensures c.if-refused-ne0.false in
-    omega (arith, may.some)
+    let may : Withdrawable c.args.self.taken c.args.self.sums = last-passed _ _ _ c.in_default-last_checks.ensures in omega (arith, may.some)
 
-pub less_share-requires : goal.less_share-requires
+pub each-requires : goal.each-requires
 unfolding none table
-less_share-requires c =
-    let self : Study = c.args.self in
-    let rates : List ℕ = c.args.table.now in
-    let share : List ℤ = c.add_to-unfit.new.sums in
-    let number : c.add_to-unfit.result ≡ (added_to_lent true c.args.kind rates c.args.claim (lent_study self.window 0 none)).refused = c.add_to-unfit.ensures.value in
-    let made : share ≡ (added_to_lent true c.args.kind rates c.args.claim (lent_study self.window 0 none)).study.sums = c.add_to-unfit.ensures.sums_after in
-    let table-small : all_at_most 4294967295 rates ≡ true = at-most-list 4294967295 rates (λ k _. omega (arith, c.type_inv.table k)) in
-    let may : Withdrawable self.taken self.sums = passed _ self _ rates _ share number made c.if-unfit-ne0.false _ c.last_checks-refused.ensures c.if-refused-ne0.false in
-    record { sums_value = may.sums; share_value = small _ self _ rates _ share number made c.if-unfit-ne0.false table-small }
+each-requires c k l _ _ _ _ =
+    let a = c.args in
+    let checked = last-passed _ _ _ c.in_default-last_checks.ensures in
+    let fits = small a.kind a.self a.claim a.table.now c.in_default.ensures.value _ c.in_default.ensures.sums_after
+    (at-most-list 4294967295 a.table.now (λ k _. omega (arith, c.type_inv.table k))) in
+    difference-fits a.self.sums c.add_to.new.sums checked.sums fits k l
 
 pub returns : goal.returns
 unfolding none table
 returns c =
-    let self : Study = c.args.self in
-    let rates : List ℕ = c.args.table.now in
-    let share : List ℤ = c.add_to-unfit.new.sums in
-    let number : c.add_to-unfit.result ≡ (added_to_lent true c.args.kind rates c.args.claim (lent_study self.window 0 none)).refused = c.add_to-unfit.ensures.value in
-    let made : share ≡ (added_to_lent true c.args.kind rates c.args.claim (lent_study self.window 0 none)).study.sums = c.add_to-unfit.ensures.sums_after in
-    withdrawn-answer _ self _ rates _ share number made c.if-unfit-ne0.false _ c.last_checks-refused.ensures c.if-refused-ne0.false _
-    c.less_share.ensures
+    let a = c.args in
+    let share = c.add_to.new.sums in
+    let checked = last-passed _ _ _ c.in_default-last_checks.ensures in
+    let fits = small a.kind a.self a.claim a.table.now c.in_default.ensures.value _ c.in_default.ensures.sums_after
+    (at-most-list 4294967295 a.table.now (λ k _. omega (arith, c.type_inv.table k))) in
+    withdrawn-answer a.kind a.self a.claim a.table.now c.in_default.ensures.value _ c.in_default.ensures.sums_after c.in_default-last_checks.ensures
+    c.each.result
+    (each-is ◌-ℤ◌ a.self.sums share c.each.result c.each.ensures.result_len
+    (λ k l. let h = c.each.ensures.by_place k l in let e = difference-is a.self.sums share checked.sums fits k l in search (rules, e)))

@@ -1,75 +1,63 @@
--- `study::sums::all_within` meets its contract. Invariant: the places of the groups before `group` are in bounds. Measure: the groups left.
+-- `study::sums::all_within` meets its contract: a sum is in bounds where its group is.
 -- Assumes nothing.
-use Prim.Native.Nat.{ℕ, ◌+◌, ◌-◌, ◌*◌, ◌%◌, ◌<◌}
-use mathlib.Core.Path.{◌≡◌, refl, sym, ap, ◌∙◌}
-use mathlib.Core.Bool.{Bool, true, false}
-use mathlib.Core.List.{List}
-use native.Mathlib.Omega.{arith}
-use lib.Dec.{ltb}
-use lib.IntN.{ℤ}
+use Rattle.std.proofs.Common.{◌≡◌, ℕ, ◌+◌, ◌*◌, ◌/◌, ◌%◌, ◌<◌, Bool, true, false, List, ℤ, sym, refl, ap, ◌∙◌, arith, rules}
+use Rattle.std.specs.List.{range_with_len}
+use Rattle.std.proofs.lemmas.Iterator.{YieldsList-from_range}
+use Rattle.std.proofs.lemmas.Iterator.Search.{all_from_yields_List}
 use Rattle.basics.specs.Limits.{most_benefit}
+use Rattle.basics.specs.Tables.{every_place}
 use Rattle.basics.proofs.Tests.{tests, by}
 use Rattle.basics.proofs.Tables.{every-at, every-is}
-use Rattle.study.specs.declared.sums.Bounds.{Bounds}
-use Rattle.study.specs.Sums.{times_at, in_bounds, all_in_bounds}
+use Rattle.study.specs.declared.bounds.Bounds.{Bounds}
+use Rattle.study.specs.Sums.{column_at, times_at, in_bounds, all_in_bounds}
 use Rattle.study.specs.Private.{bound_in, group_in_bounds}
 use Rattle.study.proofs.Algebra.{at}
-use Rattle.study.proofs.InBounds.{all-at, all-is}
+use Rattle.study.proofs.InBounds.{place_bound, all-at, all-is}
+use Rattle.study.proofs.Listed.{all-placed}
 use Rattle.study.proofs.Places.{group-times}
-use Rattle.study.proofs.sums.all_within.Invariants.{test}
 use Rattle.study.proofs.sums.all_within.Goals as goal
 
 module _ (b : Bounds) (s : List ℤ) where
-  -- the test of a group's place as its group has it
+  -- the test of a place, as the study has it and as its group does
+  abbrev test : ℕ → Bool
+  test k = in_bounds (place_bound (bound_in b) k) (column_at k) (at s k)
+
   abbrev group_test : ℕ → ℕ → Bool
   group_test g x = in_bounds (times_at most_benefit (8 * g) * bound_in b x) x (at s (8 * g + x))
 
-  same_test : (g x : ℕ) → x < 8 → group_test g x ≡ test b s (8 * g + x)
+  same_test : (g x : ℕ) → x < 8 → group_test g x ≡ test (8 * g + x)
   same_test g x h =
       let e : x ≡ (8 * g + x) % 8 = omega tests in
       λ i. in_bounds (group-times most_benefit g x h i * bound_in b (e i)) (e i) (at s (8 * g + x))
 
-  module _ (g : ℕ) (r : Bool) (is : r ≡ group_in_bounds (times_at most_benefit (8 * g)) b s (8 * g)) where
-    fails : g < 10 → r ≡ false → false ≡ all_in_bounds (bound_in b) s
-    unfolding group_in_bounds
-    fails h e =
-        by (all_in_bounds (bound_in b) s) (λ t. all_in_bounds (bound_in b) s ≡ t → false ≡ t)
-        (λ q u.
-        sym e ∙ is ∙ every-is 8 (group_test g) (λ x l. same_test g x l ∙ all-at (bound_in b) s u (8 * g + x) (omega tests)))
-        (λ q u. refl) refl
+  abbrev group_passes : ℕ → Bool
+  group_passes g = group_in_bounds (times_at most_benefit (8 * g)) b s (8 * g)
 
-    goes_on : r ≡ true → ((k : ℕ) → k < 8 * g → test b s k ≡ true) → (k : ℕ) → k < 8 * (g + 1) → test b s k ≡ true
-    unfolding group_in_bounds
-    goes_on e before k h =
-        by (ltb k (8 * g)) (λ _. test b s k ≡ true) (λ q. before k (omega tests))
-        (λ q.
-        let p : k ≡ 8 * g + (k - 8 * g) = omega tests in
-        ap (test b s) p ∙ sym (same_test g (k - 8 * g) (omega tests)) ∙ every-at 8 (group_test g) (sym is ∙ e) (k - 8 * g) (omega tests))
+  each-group : all_in_bounds (bound_in b) s ≡ true → (g : ℕ) → g < 10 → group_passes g ≡ true
+  unfolding group_in_bounds
+  each-group u g h = every-is 8 (group_test g) (λ x l. same_test g x l ∙ all-at (bound_in b) s u (8 * g + x) (omega tests))
 
-pub loop-group-init : goal.loop-group-init
-loop-group-init c = (omega arith, λ k h. absurd (omega arith))
+  each-place : every_place 10 group_passes ≡ true → (k : ℕ) → k < 80 → test k ≡ true
+  unfolding group_in_bounds
+  each-place u k h =
+      let g : ℕ = k / 8 in
+      let x : ℕ = k % 8 in
+      let p : k ≡ 8 * g + x = omega tests in
+      ap test p ∙ sym (same_test g x (omega tests)) ∙ every-at 8 (group_test g) (every-at 10 group_passes u g (omega tests)) x (omega tests)
 
-pub group_within-requires : goal.group_within-requires
-group_within-requires c =
-    record { at_bound = omega arith; times_le_most_benefit = omega arith; thirtieths_le_most_expected = omega arith; count_le_most_expected = omega arith; expected_le_most_expected = omega arith }
-
-pub returns-then-not-group_within : goal.returns-then-not-group_within
-returns-then-not-group_within c =
-    let bounds : Bounds = c.args.bounds in
-    let sums : List ℤ = c.args.sums.now in
-    let group : ℕ = c.loop-group.group in
-    let tested : c.group_within.result ≡ group_in_bounds (times_at most_benefit (8 * group)) bounds sums (8 * group) = rw c.times_in.ensures.value at c.group_within.ensures in
-    fails bounds sums group _ tested (omega arith) (c.if-not-group_within.true)
-
-pub loop-group-preserved : goal.loop-group-preserved
-loop-group-preserved c =
-    let bounds : Bounds = c.args.bounds in
-    let sums : List ℤ = c.args.sums.now in
-    let group : ℕ = c.loop-group.group in
-    let tested : c.group_within.result ≡ group_in_bounds (times_at most_benefit (8 * group)) bounds sums (8 * group) = rw c.times_in.ensures.value at c.group_within.ensures in
-    (omega arith, goes_on bounds sums group _ tested (c.if-not-group_within.false) c.loop-group.invariant.1)
+  grouped : every_place 10 group_passes ≡ all_in_bounds (bound_in b) s
+  grouped =
+      by (all_in_bounds (bound_in b) s) (λ t. all_in_bounds (bound_in b) s ≡ t → every_place 10 group_passes ≡ t)
+      (λ q u. every-is 10 group_passes (each-group u))
+      (λ q u.
+      by (every_place 10 group_passes) (λ t. every_place 10 group_passes ≡ t → t ≡ false)
+      (λ _ v. sym (all-is (bound_in b) s (each-place v)) ∙ u) (λ _ v. refl) refl) refl
 
 pub returns : goal.returns
+unfolding every_place
 returns c =
     let a = c.args in
-    sym (all-is (bound_in a.bounds) a.sums.now (λ k h. c.loop-group.invariant.1 k (omega arith)))
+    let passes = group_passes a.bounds a.sums.now in
+    all_from_yields_List passes _ _ _ c.all.ensures.ran (YieldsList-from_range 0 10 10 refl refl) (λ x b q k. search (rules, tests))
+    ∙ all-placed passes (range_with_len 0 10) 0 10 (omega arith)
+    ∙ grouped a.bounds a.sums.now

@@ -1,70 +1,35 @@
--- `study::sums::counts_within` meets its contract. Invariant: the counts before `column` are within. Measure: the columns left.
+-- `study::sums::counts_within` meets its contract: the five numbers are those of the columns with counts.
 -- Assumes nothing.
-use Prim.Native.Nat.{ℕ, ◌+◌, ◌≤◌, ◌<◌}
-use mathlib.Core.Path.{◌≡◌, refl, sym, ap, ◌∙◌}
-use mathlib.Core.Bool.{true, ◌&&◌}
-use mathlib.Core.List.{List}
-use native.Mathlib.Omega.{arith}
-use borrow.Author.Rules.{rules}
-use lib.Dec.{leb, ltb, eqb}
-use lib.IntN.{ℤ, nat_abs}
+use Rattle.std.proofs.Common.{◌≡◌, ℕ, ◌+◌, ◌-◌, ◌≤◌, Bool, ◌&&◌, List, length, get_or, take, drop, ℤ, pos, nat_abs, sym, ap, ◌∙◌, arith, rules, length-drop, get_or-drop}
+use mathlib.Core.Bool.{and-true}
+use lib.Dec.{leb}
 use lib.Signed.{non_neg}
-use mir.Syntax.{w64}
-use mir.Val.{SFits}
-use mir.Facts.{to_z-of_z}
-use Rattle.basics.proofs.Tests.{tests, by}
-use Rattle.basics.proofs.Tables.{every-is, every-fails}
-use Rattle.study.specs.Sums.{in_bounds}
+use Rattle.std.specs.List.{list_all}
+use Rattle.std.proofs.lemmas.Iterator.{YieldsList-from_slice}
+use Rattle.std.proofs.lemmas.Iterator.Search.{all_from_yields_List}
+use Rattle.basics.specs.Tables.{every_place}
+use Rattle.basics.proofs.Tests.{tests}
+use Rattle.basics.proofs.Tables.{every-same}
+use Rattle.study.specs.Sums.{is_count, in_bounds}
 use Rattle.study.specs.Private.{counts_in_bounds}
-use Rattle.study.proofs.Algebra.{at}
-use Rattle.study.proofs.Places.{a-count, no-count}
-use Rattle.study.proofs.sums.counts_within.Invariants.{test}
+use Rattle.study.proofs.Listed.{all-placed}
 use Rattle.study.proofs.sums.counts_within.Goals as goal
 
-other : (n : ℕ) (s : List ℤ) (first x : ℕ) → (1 ≤ x → 5 < x) → test n s first x ≡ true
-other n s first x h = rw (no-count x h) refl
+abbrev up_to : ℕ → ℤ → Bool
+up_to n x = leb (nat_abs x) n && non_neg x
 
-count : (n : ℕ) (s : List ℤ) (first x : ℕ) → 1 ≤ x → x ≤ 5 → (leb (nat_abs (at s (first + x))) n && non_neg (at s (first + x))) ≡ test n s first x
-unfolding in_bounds
-count n s first x l h = rw (a-count x l h) refl
-
-pub loop-column-init : goal.loop-column-init
-loop-column-init c = let a = c.args in (omega arith, omega arith, λ x h. other a.bound a.sums.now a.at x (λ l. omega arith))
-
-pub returns-then-not-is_up_to : goal.returns-then-not-is_up_to
-unfolding counts_in_bounds
-returns-then-not-is_up_to c =
-    let column : ℕ = c.loop-column.column in
-    let sum : ℤ = at c.args.sums.now (c.args.at + column) in
-    let fits : SFits w64 sum = search rules in
-    let tested : c.is_up_to.result ≡ test c.args.bound c.args.sums.now c.args.at column =
-    rw (to_z-of_z fits) at c.is_up_to.ensures ∙ count c.args.bound c.args.sums.now c.args.at column c.loop-column.invariant.0 (omega arith) in
-    sym (every-fails 8 (test c.args.bound c.args.sums.now c.args.at) column (omega arith)
-    (sym tested ∙ c.if-not-is_up_to.true))
-
-pub loop-column-preserved : goal.loop-column-preserved
-loop-column-preserved c =
-    let column : ℕ = c.loop-column.column in
-    let sum : ℤ = at c.args.sums.now (c.args.at + column) in
-    let fits : SFits w64 sum = search rules in
-    let tested : c.is_up_to.result ≡ test c.args.bound c.args.sums.now c.args.at column =
-    rw (to_z-of_z fits) at c.is_up_to.ensures ∙ count c.args.bound c.args.sums.now c.args.at column c.loop-column.invariant.0 (omega arith) in
-    let n = c.args.bound in
-    let s = c.args.sums.now in
-    let f = c.args.at in (
-      omega arith,
-      omega arith,
-      λ x h.
-          by (eqb x column) (λ _. test n s f x ≡ true)
-          (λ q. let e : x ≡ column = omega tests in ap (test n s f) e ∙ sym tested ∙ c.if-not-is_up_to.false)
-          (λ q. c.loop-column.invariant.2 x (omega tests)),
-    )
+counted : (n : ℕ) (s : List ℤ) (first : ℕ) → first + 8 ≤ length s → list_all (up_to n) (take 5 (drop (first + 1) s)) ≡ counts_in_bounds n s first
+unfolding counts_in_bounds every_place in_bounds is_count
+counted n s first h =
+    all-placed (up_to n) (drop (first + 1) s) (pos 0) 5 (grind (arith, length-drop))
+    ∙ every-same 5 (λ k. up_to n (get_or (drop (first + 1) s) k (pos 0))) (λ k. up_to n (get_or s (first + (k + 1)) (pos 0)))
+    (λ k l. ap (up_to n) (get_or-drop (first + 1) s k (pos 0) ∙ ap (λ (i : ℕ). get_or s i (pos 0)) (omega arith)))
+    ∙ sym (and-true _ ∙ and-true _)
 
 pub returns : goal.returns
-unfolding counts_in_bounds
 returns c =
     let a = c.args in
-    sym (every-is 8 (test a.bound a.sums.now a.at)
-    (λ x h.
-    by (ltb x 6) (λ _. test a.bound a.sums.now a.at x ≡ true)
-    (λ q. c.loop-column.invariant.2 x (omega tests)) (λ q. other a.bound a.sums.now a.at x (λ l. omega tests))))
+    let five : a.at + 6 - (a.at + 1) ≡ 5 = omega arith in
+    all_from_yields_List (up_to a.bound) _ _ _ c.all.ensures.ran (YieldsList-from_slice _ c.iter.ensures.rest) (λ x b q k. search (rules, tests))
+    ∙ ap (λ (n : ℕ). list_all (up_to a.bound) (take n (drop (a.at + 1) a.sums.now))) five
+    ∙ counted a.bound a.sums.now a.at (omega arith)

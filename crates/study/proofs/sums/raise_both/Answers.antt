@@ -13,12 +13,12 @@ use lib.ListN.{length, set, length-set}
 use lib.Seq.{get_or-set_same, get_or-set_other}
 use lib.IntN.{ℤ, pos, nat_abs, ◌*ℤ◌, *ℤ_comm, *ℤ-one, one}
 use mir.Syntax.{w64}
-use mir.Val.{SFits, to_z, of_z}
+use mir.Val.{to_z, of_z}
 use Rattle.basics.specs.Pick.{pick}
 use Rattle.basics.specs.Limits.{most_expected, most_benefit}
 use Rattle.basics.proofs.Tests.{tests, by}
 use Rattle.basics.proofs.Integers.{size-product}
-use Rattle.basics.proofs.Signed.{read_back, result_fits, result-is}
+use Rattle.basics.proofs.Signed.{read_back, result-is}
 use Rattle.study.specs.Sums.{group_at, column_at, times_at}
 use Rattle.study.specs.PreparedAdding.{guarded_sum, guarded_plus}
 use Rattle.study.specs.Private.{share_by, one_figure}
@@ -106,48 +106,35 @@ weighted-most : (k : ℕ) → 40 ≤ k → most_benefit * most_expected ≡ time
 unfolding times_at
 weighted-most k h = rw (le-ltb k 40 h) refl
 
+-- an amount and its weighted one, read back from their bits
+weighted-size : (n : ℕ) (x : ℤ) → n ≤ 200 → nat_abs x ≤ 1000000000000000 → nat_abs (pos n *ℤ x) ≤ 200000000000000000
+weighted-size n x h g =
+    let p : n * nat_abs x ≤ 200 * 1000000000000000 = mul-le-mul h g in
+    omega (arith, size-product (pos n) x)
+
+weighted-read : (n : ℕ) (x : ℤ) → n ≤ 200 → nat_abs x ≤ 1000000000000000 → to_z w64 (of_z w64 (to_z w64 n *ℤ to_z w64 (of_z w64 x))) ≡ pos n *ℤ x
+weighted-read n x h g = result-is ◌*ℤ◌ (pos n) x (omega arith) (omega arith) (omega (arith, weighted-size n x h g))
+
+weighted-bound : (n : ℕ) (x : ℤ) → n ≤ 200 → nat_abs x ≤ 1000000000000000
+    → nat_abs (to_z w64 (of_z w64 (to_z w64 n *ℤ to_z w64 (of_z w64 x)))) ≤ 1000000000000000000
+weighted-bound n x h g = rw (weighted-read n x h g) (omega (arith, weighted-size n x h g))
+
+pub raise-requires-clause-most_value : goal.raise-requires-clause-most_value
+raise-requires-clause-most_value c = first-most _ (omega arith)
+
+pub raise-requires-2-clause-most_value : goal.raise-requires-2-clause-most_value
+raise-requires-2-clause-most_value c = weighted-most _ (omega arith)
+
+pub raise-requires-2-clause-amount_bound : goal.raise-requires-2-clause-amount_bound
+raise-requires-2-clause-amount_bound c = weighted-bound c.args.weight c.args.amount (omega arith) (omega arith)
+
 pub returns : goal.returns
 returns c =
-    let sum : ℤ = c.args.amount in
-    let weight : ℕ = c.args.weight in
-    let amount-read : to_z w64 (of_z w64 sum) ≡ sum = read_back sum (omega arith) in
-    let size : nat_abs (pos weight *ℤ sum) ≤ 200000000000000000 = let h : weight ≤ 200 = omega arith in
-    let g : nat_abs sum ≤ 1000000000000000 = omega arith in
-    let p : weight * nat_abs sum ≤ 200 * 1000000000000000 = mul-le-mul h g in
-    omega (arith, size-product (pos weight) sum) in
-    let product-read : to_z w64 (of_z w64 (to_z w64 weight *ℤ to_z w64 (of_z w64 sum))) ≡ pos weight *ℤ sum = result-is ◌*ℤ◌ (pos weight) sum (omega arith) (omega arith) (omega (arith, size)) in
-    let l = c.args.sums.now in
-    let g = c.args.group in
-    let k = 8 * (g - 1) + c.args.column in
-    let e : c.raise.new.sums ≡ set l k (guarded_sum k (at l k) c.args.amount) = rw amount-read at c.raise.ensures in
-    rw product-read at c.raise-2.ensures
-    ∙ ap (λ (z : List ℤ). set z (k + 40) (guarded_sum (k + 40) (at z (k + 40)) (pos c.args.weight *ℤ c.args.amount))) e
-    ∙ both-raised l c.requires.sums_len c.args.weight g c.args.column c.args.amount (omega arith) (omega arith) (omega arith)
-
-pub raise-requires : goal.raise-requires
-raise-requires c =
-    let sum : ℤ = c.args.amount in
-    let amount-read : to_z w64 (of_z w64 sum) ≡ sum = read_back sum (omega arith) in
-    record { place_in_bounds = omega arith; most_value = first-most _ (omega arith); most_bound = omega arith; amount_bound = rw amount-read (omega arith) }
-
-pub raise-requires-2 : goal.raise-requires-2
-raise-requires-2 c =
-    let sum : ℤ = c.args.amount in
-    let weight : ℕ = c.args.weight in
-    let size : nat_abs (pos weight *ℤ sum) ≤ 200000000000000000 = let h : weight ≤ 200 = omega arith in
-    let g : nat_abs sum ≤ 1000000000000000 = omega arith in
-    let p : weight * nat_abs sum ≤ 200 * 1000000000000000 = mul-le-mul h g in
-    omega (arith, size-product (pos weight) sum) in
-    let product-read : to_z w64 (of_z w64 (to_z w64 weight *ℤ to_z w64 (of_z w64 sum))) ≡ pos weight *ℤ sum = result-is ◌*ℤ◌ (pos weight) sum (omega arith) (omega arith) (omega (arith, size)) in
-    record { place_in_bounds = omega arith; most_value = weighted-most _ (omega arith); most_bound = omega arith; amount_bound = rw product-read (omega (arith, size)) }
-
-pub overflow_mul-weight : goal.overflow_mul-weight
-overflow_mul-weight c =
-    let sum : ℤ = c.args.amount in
-    let weight : ℕ = c.args.weight in
-    let size : nat_abs (pos weight *ℤ sum) ≤ 200000000000000000 = let h : weight ≤ 200 = omega arith in
-    let g : nat_abs sum ≤ 1000000000000000 = omega arith in
-    let p : weight * nat_abs sum ≤ 200 * 1000000000000000 = mul-le-mul h g in
-    omega (arith, size-product (pos weight) sum) in
-    let fits : SFits w64 (to_z w64 weight *ℤ to_z w64 (of_z w64 sum)) = result_fits ◌*ℤ◌ (pos weight) sum (omega arith) (omega arith) (omega (arith, size)) in
-    fits
+    let a = c.args in
+    let l = a.sums.now in
+    let k = 8 * (a.group - 1) + a.column in
+    let e : c.raise.new.sums ≡ set l k (guarded_sum k (at l k) a.amount) = rw (read_back a.amount (omega arith)) at c.raise.ensures in
+    c.raise-2.ensures
+    ∙ ap (λ (x : ℤ). set c.raise.new.sums (k + 40) (guarded_sum (k + 40) (at c.raise.new.sums (k + 40)) x)) (weighted-read a.weight a.amount (omega arith) (omega arith))
+    ∙ ap (λ (z : List ℤ). set z (k + 40) (guarded_sum (k + 40) (at z (k + 40)) (pos a.weight *ℤ a.amount))) e
+    ∙ both-raised l c.told-sums a.weight a.group a.column a.amount (omega arith) (omega arith) (omega arith)
