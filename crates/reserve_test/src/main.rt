@@ -6,16 +6,15 @@ use basics::Duration;
 use rates::Cell;
 use std::io;
 use test_support::lists::filled;
-use test_support::print::{put, put_next, put_number};
-use valuation::{MaybeRate, Reserve};
+use test_support::print::{put, put_named, put_next, put_number};
+use valuation::Reserve;
 
 const EVEN: [u64; 5] = [1000000, 1000000, 1000000, 1000000, 1000000];
 
 const UNEVEN: [u64; 5] = [500000, 800000, 1100000, 1300000, 900000];
 
 fn refused(rt: &impl Print, number: u8) -> io::Result<()> {
-    put(rt, b": refused ")?;
-    put_number(rt, number as u64)
+    put_named(rt, b": refused ", number as u64)
 }
 
 // A number's bits, in 16 hexadecimal digits.
@@ -65,22 +64,18 @@ fn rate(
     put_number(rt, case)?;
     let answer = valuation::rate::valuation_rate(rates, Cell(cell), t, Duration(duration));
     match answer {
-        MaybeRate::Rate(g) => {
-            put(rt, b": rate ")?;
-            put_number(rt, g as u64)?;
-        }
-        MaybeRate::Refused(n) => refused(rt, n)?,
+        Ok(g) => put_named(rt, b": rate ", g as u64)?,
+        Err(refusal) => refused(rt, u8::from(refusal))?,
     }
     put(rt, b"\n")
 }
 
 fn five(rt: &impl Print, t: [u64; 5]) -> io::Result<()> {
     put(rt, b": T")?;
-    put_next(rt, t[0])?;
-    put_next(rt, t[1])?;
-    put_next(rt, t[2])?;
-    put_next(rt, t[3])?;
-    put_next(rt, t[4])
+    for one in t {
+        put_next(rt, one)?;
+    }
+    Ok(())
 }
 
 // The answer for a list of open claims, five T, the termination count of group 3 and a discount.
@@ -95,17 +90,17 @@ fn limit(
 ) -> io::Result<()> {
     put_number(rt, case)?;
     let answer = valuation::reserve_limit::reserve_limit(rates, list, t, count, v);
-    let given = f64::to_bits(answer.given);
-    let replaced = f64::to_bits(answer.replaced);
-    if answer.refused != 0 {
-        refused(rt, answer.refused)?;
-    } else {
-        let chosen = answer.t;
-        five(rt, chosen)?;
-        put(rt, b" given ")?;
-        put_bits(rt, given)?;
-        put(rt, b" replaced ")?;
-        put_bits(rt, replaced)?;
+    match answer {
+        Ok(limit) => {
+            let given = f64::to_bits(limit.given);
+            let replaced = f64::to_bits(limit.replaced);
+            five(rt, limit.t)?;
+            put(rt, b" given ")?;
+            put_bits(rt, given)?;
+            put(rt, b" replaced ")?;
+            put_bits(rt, replaced)?;
+        }
+        Err(refusal) => refused(rt, u8::from(refusal))?,
     }
     put(rt, b"\n")
 }
@@ -143,13 +138,10 @@ fn of_months(rt: &impl Print, months: u32, rates: &[u32]) -> io::Result<()> {
 
 fn lengths(rt: &impl Print, rates: &[u32]) -> io::Result<()> {
     put(rt, b"months\n")?;
-    of_months(rt, 0, rates)?;
-    of_months(rt, 1, rates)?;
-    of_months(rt, 2, rates)?;
-    of_months(rt, 479, rates)?;
-    of_months(rt, 480, rates)?;
-    of_months(rt, 481, rates)?;
-    of_months(rt, 4294967295, rates)
+    for months in [0, 1, 2, 479, 480, 481, u32::MAX] {
+        of_months(rt, months, rates)?;
+    }
+    Ok(())
 }
 
 // Three months from a duration on.
@@ -159,55 +151,41 @@ fn from_duration(rt: &impl Print, rates: &[u32], first: u32) -> io::Result<()> {
 
 fn durations(rt: &impl Print, rates: &[u32]) -> io::Result<()> {
     put(rt, b"first duration\n")?;
-    from_duration(rt, rates, 0)?;
-    from_duration(rt, rates, 1)?;
-    from_duration(rt, rates, 2)?;
-    from_duration(rt, rates, 3)?;
-    from_duration(rt, rates, 23)?;
-    from_duration(rt, rates, 59)?;
-    from_duration(rt, rates, 119)?;
+    for first in [0, 1, 2, 3, 23, 59, 119] {
+        from_duration(rt, rates, first)?;
+    }
     factor(rt, 478, rates, 0, 478, UNEVEN, 5, 0.997)?;
-    from_duration(rt, rates, 480)?;
-    from_duration(rt, rates, 481)?;
-    from_duration(rt, rates, 4294967295)
+    for first in [480, 481, u32::MAX] {
+        from_duration(rt, rates, first)?;
+    }
+    Ok(())
 }
 
 fn improvements(rt: &impl Print, rates: &[u32]) -> io::Result<()> {
     put(rt, b"T\n")?;
     factor(rt, 0, rates, 0, 2, [0; 5], 480, 0.997)?;
     factor(rt, 1000000, rates, 0, 2, EVEN, 480, 0.997)?;
-    factor(
-        rt,
-        18446744073709551615,
-        rates,
-        0,
-        2,
-        [18446744073709551615; 5],
-        480,
-        0.997,
-    )?;
+    factor(rt, u64::MAX, rates, 0, 2, [u64::MAX; 5], 480, 0.997)?;
     factor(rt, 1, rates, 0, 2, UNEVEN, 480, 0.997)?;
-    rate(rt, 0, rates, 0, 0, 4)?;
-    rate(rt, 1000000, rates, 0, 1000000, 4)?;
-    rate(rt, 987654, rates, 0, 987654, 4)?;
-    rate(rt, 18446744073709551615, rates, 0, 18446744073709551615, 4)
+    for t in [0, 1000000, 987654, u64::MAX] {
+        rate(rt, t, rates, 0, t, 4)?;
+    }
+    Ok(())
 }
 
 fn rate_durations(rt: &impl Print, rates: &[u32]) -> io::Result<()> {
     put(rt, b"duration\n")?;
-    rate(rt, 0, rates, 0, 1000000, 0)?;
-    rate(rt, 1, rates, 0, 1000000, 1)?;
-    rate(rt, 2, rates, 0, 1000000, 2)?;
-    rate(rt, 480, rates, 1, 1000000, 480)?;
-    rate(rt, 481, rates, 1, 1000000, 481)?;
-    rate(rt, 4294967295, rates, 1, 1000000, 4294967295)
+    for (cell, duration) in [(0, 0), (0, 1), (0, 2), (1, 480), (1, 481), (1, u32::MAX)] {
+        rate(rt, duration as u64, rates, cell, 1000000, duration)?;
+    }
+    Ok(())
 }
 
-// The first n rates as a table.
-fn part(rt: &impl Print, rates: &[u32], n: usize, cell: u32) -> io::Result<()> {
-    if n <= rates.len() {
-        factor(rt, n as u64, &rates[0..n], cell, 4, EVEN, 24, 0.997)?;
-        rate(rt, n as u64, &rates[0..n], cell, 1000000, 4)?;
+// A cell of the first n rates as a table, with a discount.
+fn part(rt: &impl Print, rates: &[u32], n: usize, cell: u32, v: f64) -> io::Result<()> {
+    if let Some(table) = rates.get(..n) {
+        factor(rt, n as u64, table, cell, 4, EVEN, 24, v)?;
+        rate(rt, n as u64, table, cell, 1000000, 4)?;
     }
     Ok(())
 }
@@ -215,16 +193,21 @@ fn part(rt: &impl Print, rates: &[u32], n: usize, cell: u32) -> io::Result<()> {
 // Tables that aren't one, and cells that aren't there.
 fn tables(rt: &impl Print, rates: &[u32]) -> io::Result<()> {
     put(rt, b"rates\n")?;
-    part(rt, rates, 0, 0)?;
-    part(rt, rates, 957, 0)?;
-    part(rt, rates, 958, 0)?;
-    part(rt, rates, 958, 1)?;
-    part(rt, rates, 959, 0)?;
-    part(rt, rates, 1916, 1)?;
-    part(rt, rates, 1916, 2)?;
-    part(rt, rates, 1916, 255)?;
-    part(rt, rates, 1916, 256)?;
-    part(rt, rates, 1916, 4294967295)
+    for (n, cell) in [
+        (0, 0),
+        (957, 0),
+        (958, 0),
+        (958, 1),
+        (959, 0),
+        (1916, 1),
+        (1916, 2),
+        (1916, 255),
+        (1916, 256),
+        (1916, u32::MAX),
+    ] {
+        part(rt, rates, n, cell, 0.997)?;
+    }
+    Ok(())
 }
 
 // A call that fails several checks answers the first of them.
@@ -256,31 +239,25 @@ fn products(rt: &impl Print, death: u32) -> io::Result<()> {
     put(rt, b"T of a death rate\n")?;
     let mut rates = [0u32; 958];
     rates[481] = death;
-    rate(rt, 1, &rates, 0, 1, 4)?;
-    rate(rt, 999999, &rates, 0, 999999, 4)?;
-    rate(rt, 999999999999, &rates, 0, 999999999999, 4)?;
-    rate(rt, 1000000000000, &rates, 0, 1000000000000, 4)?;
-    rate(rt, 18446744073709551615, &rates, 0, 18446744073709551615, 4)?;
-    factor(rt, 1000000, &rates, 0, 2, EVEN, 4, 0.5)
-}
-
-// A cell of the first n rates.
-fn cell_of(rt: &impl Print, rates: &[u32], n: usize, cell: u32) -> io::Result<()> {
-    if n <= rates.len() {
-        factor(rt, n as u64, &rates[0..n], cell, 4, EVEN, 24, 0.5)?;
-        rate(rt, n as u64, &rates[0..n], cell, 1000000, 4)?;
+    for t in [1, 999999, 999999999999, 1000000000000, u64::MAX] {
+        rate(rt, t, &rates, 0, t, 4)?;
     }
-    Ok(())
+    factor(rt, 1000000, &rates, 0, 2, EVEN, 4, 0.5)
 }
 
 // 65 cells and 1,024, which are tables, and 1,025, which are none.
 fn many(rt: &impl Print, rates: &[u32; 981950]) -> io::Result<()> {
-    cell_of(rt, rates, 62270, 64)?;
-    cell_of(rt, rates, 62270, 65)?;
-    cell_of(rt, rates, 980992, 256)?;
-    cell_of(rt, rates, 980992, 1023)?;
-    cell_of(rt, rates, 980992, 1024)?;
-    cell_of(rt, rates, 981950, 0)
+    for (n, cell) in [
+        (62270, 64),
+        (62270, 65),
+        (980992, 256),
+        (980992, 1023),
+        (980992, 1024),
+        (981950, 0),
+    ] {
+        part(rt, rates, n, cell, 0.5)?;
+    }
+    Ok(())
 }
 
 // The paper's figure, then many cells.
@@ -304,62 +281,19 @@ fn limits(rt: &impl Print, rates: &[u32]) -> io::Result<()> {
     put(rt, b"limit\n")?;
     judged(rt, 1, rates, EVEN, 0)?;
     judged(rt, 2, rates, UNEVEN, 4999)?;
-    judged(
-        rt,
-        3,
-        rates,
-        [1000000, 1000000, 1300000, 1300000, 1300000],
-        0,
-    )?;
-    judged(
-        rt,
-        4,
-        rates,
-        [2000000, 2000000, 1300001, 1300000, 1300000],
-        0,
-    )?;
-    judged(
-        rt,
-        5,
-        rates,
-        [2000000, 2000000, 1300000, 1500000, 1300000],
-        0,
-    )?;
-    judged(
-        rt,
-        6,
-        rates,
-        [1400000, 500000, 1900000, 1600000, 18446744073709551615],
-        0,
-    )?;
-    judged(
-        rt,
-        4999,
-        rates,
-        [900000, 900000, 2000000, 1200000, 1310000],
-        4999,
-    )?;
-    judged(
-        rt,
-        5000,
-        rates,
-        [900000, 900000, 2000000, 1200000, 1310000],
-        5000,
-    )?;
-    judged(
-        rt,
-        5001,
-        rates,
-        [900000, 900000, 2000000, 1200000, 1400000],
-        5001,
-    )?;
-    judged(
-        rt,
-        7,
-        rates,
-        [900000, 900000, 2000000, 1200000, 1400000],
-        18446744073709551615,
-    )
+    for (case, t, count) in [
+        (3, [1000000, 1000000, 1300000, 1300000, 1300000], 0),
+        (4, [2000000, 2000000, 1300001, 1300000, 1300000], 0),
+        (5, [2000000, 2000000, 1300000, 1500000, 1300000], 0),
+        (6, [1400000, 500000, 1900000, 1600000, u64::MAX], 0),
+        (4999, [900000, 900000, 2000000, 1200000, 1310000], 4999),
+        (5000, [900000, 900000, 2000000, 1200000, 1310000], 5000),
+        (5001, [900000, 900000, 2000000, 1200000, 1400000], 5001),
+        (7, [900000, 900000, 2000000, 1200000, 1400000], u64::MAX),
+    ] {
+        judged(rt, case, rates, t, count)?;
+    }
+    Ok(())
 }
 
 // No claims: nothing else is looked at. Claims of one group: the other groups' T are replaced all the same, or kept.
@@ -418,16 +352,20 @@ fn second_claim(
 
 fn claim_checks(rt: &impl Print, rates: &[u32]) -> io::Result<()> {
     put(rt, b"open claims\n")?;
-    second_claim(rt, 24, rates, 0, 24, 10, 0.997)?;
-    second_claim(rt, 25, rates, 0, 25, 480, 0.997)?;
-    second_claim(rt, 480, rates, 0, 480, 480, 0.997)?;
-    second_claim(rt, 481, rates, 0, 481, 10, 0.997)?;
-    second_claim(rt, 2, rates, 0, 2, 10, 0.997)?;
-    second_claim(rt, 1, rates, 0, 1, 10, 0.997)?;
-    second_claim(rt, 481, rates, 0, 24, 481, 0.997)?;
-    second_claim(rt, 2, rates, 2, 24, 481, 0.997)?;
-    second_claim(rt, 65536, rates, 65536, 25, 10, 0.997)?;
-    second_claim(rt, 4294967295, rates, 4294967295, 25, 10, 0.997)?;
+    for (case, cell, duration, months) in [
+        (24, 0, 24, 10),
+        (25, 0, 25, 480),
+        (480, 0, 480, 480),
+        (481, 0, 481, 10),
+        (2, 0, 2, 10),
+        (1, 0, 1, 10),
+        (481, 0, 24, 481),
+        (2, 2, 24, 481),
+        (65536, 65536, 25, 10),
+        (4294967295, u32::MAX, 25, 10),
+    ] {
+        second_claim(rt, case, rates, cell, duration, months, 0.997)?;
+    }
     second_claim(rt, 0, rates, 0, 25, 10, 1.5)?;
     let first_short = [0, 24, 10, 2, 25, 10];
     limit(rt, 17, rates, &first_short, EVEN, 0, 0.997)?;
@@ -464,10 +402,9 @@ fn main(rt: HostRuntime) -> io::Result<()> {
     order(&rt, &rates)?;
     heavy(&rt, rates, 1000)?;
     heavy(&rt, rates, 1001)?;
-    products(&rt, 0)?;
-    products(&rt, 1)?;
-    products(&rt, 500000)?;
-    products(&rt, 1000000)?;
+    for death in [0, 1, 500000, 1000000] {
+        products(&rt, death)?;
+    }
     cells(&rt)?;
     limits(&rt, &rates)?;
     few_claims(&rt, &rates)?;

@@ -1,18 +1,22 @@
 -- Both totals claim by claim, and which tests lead to which answer of the call for the limit. Assumes nothing.
-use Prim.Native.Nat.{ℕ, ◌+◌, ◌≤◌}
+use Prim.Native.Nat.{ℕ, zero, suc, ◌+◌, ◌≤◌}
 use mathlib.Core.Path.{◌≡◌, refl, sym, ap, ◌∙◌}
 use mathlib.Core.Bool.{true, false}
 use mathlib.Core.List.{List}
 use native.Mathlib.Numerals.{add-one}
-use borrow.Author.Tests.{eqb-true, eq-eqb, ne_eqb}
+use native.Mathlib.Omega.{arith}
+use borrow.Author.Tests.{eqb-true, eqb-false, eq-eqb, ne_eqb}
 use lib.Dec.{eqb}
 use lib.Ieee.{Float, binary64, add, lt}
-use Rattle.basics.specs.Pick.{pick}
-use Rattle.basics.specs.Checks.{check, ◌then◌, refuse_open_claims}
+use Rattle.basics.specs.Checks.{◌then◌}
 use Rattle.basics.proofs.Checks.{then-passed, then_next, then-fails}
-use Rattle.basics.proofs.Tests.{by}
+use Rattle.basics.proofs.Tests.{tests, by}
+use Rattle.basics.specs.declared.refusal.Refusal.{Refusal}
+use Rattle.basics.specs.declared.refusal.Refusal.TheVariants.{OpenClaims}
+use Rattle.basics.specs.Refused.{number_of}
+use Rattle.std.specs.Prelude.{Ok, Err}
 use Rattle.rates.specs.Rates.{rate_check}
-use Rattle.valuation.specs.Reserve.{float, reserve_of, discount_sound}
+use Rattle.valuation.specs.Reserve.{reserve_of, discount_sound}
 use Rattle.valuation.specs.ReserveLimit.{
   claim_cell,
   next_duration,
@@ -27,9 +31,10 @@ use Rattle.valuation.specs.ReserveLimit.{
   judged_t,
   limit_of,
 }
-use Rattle.valuation.specs.Private.{totals_of, refused_limit}
+use Rattle.valuation.specs.Private.{totals_of}
+use Rattle.valuation.proofs.AnswerTests.{not-zero}
 use Rattle.valuation.proofs.ReserveLaws.{reserve-passed}
-use Rattle.valuation.specs.declared.LimitAnswer.{LimitAnswer}
+use Rattle.valuation.specs.LimitAnswers.{limit_by_number}
 use Rattle.valuation.specs.declared.reserve_limit.Totals.{Totals}
 
 -- what a claim that passed its checks has
@@ -40,93 +45,100 @@ unfolding open_claim_check
 claim-passed rates list v n e =
     reserve-passed rates (claim_cell list n) (next_duration list n) (months_left list n) v (then-passed _ _ e).0
 
--- the totals of a list with a claim that didn't
-abbrev refused_totals : ℕ → Totals
-refused_totals k = record { refused = k; given = float 0; replaced = float 0 }
-
 module _ (rates list t other : List ℕ) (v : Float) where
-  totals-refused : (n : ℕ) → (open_claims_check rates list v n ≡ 0 → ⊥) → totals_of rates list t other v n ≡ refused_totals (open_claims_check rates list v n)
+  abbrev checks : ℕ → ℕ
+  checks = open_claims_check rates list v
+
+  totals-refused : (n : ℕ) → (checks n ≡ 0 → ⊥) → totals_of rates list t other v n ≡ Err (checks n)
   unfolding totals_of
-  totals-refused n h = simp (ne_eqb (open_claims_check rates list v n) 0 h)
+  totals-refused n h = simp (ne_eqb (checks n) 0 h)
 
   totals-passed :
-      (n : ℕ) → open_claims_check rates list v n ≡ 0
-      → totals_of rates list t other v n
-      ≡ record { refused = 0; given = reserve_total rates list t v n; replaced = reserve_total rates list other v n }
+      (n : ℕ) → checks n ≡ 0
+      → totals_of rates list t other v n ≡ Ok (record { given = reserve_total rates list t v n; replaced = reserve_total rates list other v n })
   unfolding totals_of
-  totals-passed n h = simp (eq-eqb (open_claims_check rates list v n) 0 h)
+  totals-passed n h = simp (eq-eqb (checks n) 0 h)
 
-  -- the number that the totals carry is that of the first check that failed
-  totals-number : (n : ℕ) → (totals_of rates list t other v n).refused ≡ open_claims_check rates list v n
-  unfolding totals_of
-  totals-number n =
-      by (eqb k 0)
-      (λ s. (pick s (record { refused = 0; given = reserve_total rates list t v n; replaced = reserve_total rates list other v n }) (refused_totals k)).refused ≡ k)
-      (λ q. sym (eqb-true k 0 q)) (λ q. refl)
-    where
-      k : ℕ
-      k = open_claims_check rates list v n
+  -- totals are answered where every check passed, and else the number of the first that failed
+  all-passed : (n : ℕ) (x : Totals) → Ok x ≡ totals_of rates list t other v n → checks n ≡ 0
+  all-passed n x e =
+      by (eqb (checks n) 0) (λ _. checks n ≡ 0) (eqb-true (checks n) 0)
+      (λ q. let f = e ∙ totals-refused n (eqb-false (checks n) 0 q) in let z : ◌≡◌ {A = ℕ} 0 1 = cc in absurd (omega arith))
 
-  -- the check of one claim more
-  check-more : (n : ℕ) → open_claims_check rates list v (n + 1) ≡ (open_claims_check rates list v n then open_claim_check rates list v n)
+  one-failed : (n : ℕ) (r : Refusal) → Err (number_of r) ≡ totals_of rates list t other v n → number_of r ≡ checks n
+  one-failed n r e =
+      by (eqb (checks n) 0) (λ _. number_of r ≡ checks n)
+      (λ q. let f = e ∙ totals-passed n (eqb-true (checks n) 0 q) in let z : ◌≡◌ {A = ℕ} 0 1 = cc in absurd (omega arith))
+      (λ q. let f = e ∙ totals-refused n (eqb-false (checks n) 0 q) in cc)
+
+  -- one that failed stays the first
+  checks-stay : (m n : ℕ) → m ≤ n → (checks m ≡ 0 → ⊥) → checks n ≡ checks m
   unfolding open_claims_check
-  check-more n = rw add-one
+  checks-stay m zero l h = let e : 0 ≡ m = omega arith in ap checks e
+  checks-stay m (suc n) l h =
+      by (eqb m (suc n)) (λ _. checks (suc n) ≡ checks m) (λ q. ap checks (sym (eqb-true m (suc n) q)))
+      (λ q. let i = checks-stay m n (omega tests) h in then-fails _ _ (λ z. h (sym i ∙ z)) ∙ i)
 
-  module _ (n : ℕ) (x : Totals) (e : x ≡ totals_of rates list t other v n) where
-    number : x.refused ≡ open_claims_check rates list v n
-    number = ap (λ (y : Totals). y.refused) e ∙ totals-number n
+  pub totals-stay :
+      (m n : ℕ) → m ≤ n → (r : Refusal) → Err (number_of r) ≡ totals_of rates list t other v m → Err (number_of r) ≡ totals_of rates list t other v n
+  totals-stay m n l r e =
+      let k = one-failed m r e in
+      let s = checks-stay m n l (not-zero r (checks m) k) in
+      ap Err (k ∙ sym s) ∙ sym (totals-refused n (λ z. not-zero r (checks m) k (sym s ∙ z)))
 
-    -- one that failed before stays the first
-    pub totals-stay : (x.refused ≡ 0 → ⊥) → x ≡ totals_of rates list t other v (n + 1)
-    totals-stay h =
-        let failed : (open_claims_check rates list v n ≡ 0 → ⊥) = λ q. h (number ∙ q) in
-        let same : open_claims_check rates list v (n + 1) ≡ open_claims_check rates list v n = check-more n ∙ then-fails _ _ failed in
-        e ∙ totals-refused n failed ∙ ap refused_totals (sym same) ∙ sym (totals-refused (n + 1) (λ q. failed (sym same ∙ q)))
+  -- one claim more
+  module _ (n : ℕ) (x : Totals) (e : Ok x ≡ totals_of rates list t other v n) where
+    next : checks (n + 1) ≡ open_claim_check rates list v n
+    unfolding open_claims_check
+    next = rw add-one (then_next (checks n) _ (all-passed n x e))
 
-    module _ (h : x.refused ≡ 0) where
-      next : open_claims_check rates list v (n + 1) ≡ open_claim_check rates list v n
-      next = check-more n ∙ then_next _ _ (sym number ∙ h)
+    pub claim-refused : (r : Refusal) → number_of r ≡ open_claim_check rates list v n → Err (number_of r) ≡ totals_of rates list t other v (n + 1)
+    claim-refused r q =
+        let k : number_of r ≡ checks (n + 1) = q ∙ sym next in
+        ap Err k ∙ sym (totals-refused (n + 1) (not-zero r (checks (n + 1)) k))
 
-      pub claim-refused :
-          (k : ℕ) → k ≡ open_claim_check rates list v n → (k ≡ 0 → ⊥) → refused_totals k ≡ totals_of rates list t other v (n + 1)
-      claim-refused k q f =
-          ap refused_totals (q ∙ sym next) ∙ sym (totals-refused (n + 1) (λ z. f (q ∙ sym next ∙ z)))
-
-      pub claim-added :
-          open_claim_check rates list v n ≡ 0
-          → record {
-            refused = 0;
-            given = add binary64 x.given (reserve_of rates (claim_cell list n) (next_duration list n) t (months_left list n) v);
-            replaced = add binary64 x.replaced (reserve_of rates (claim_cell list n) (next_duration list n) other (months_left list n) v);
-          }
-          ≡ totals_of rates list t other v (n + 1)
-      unfolding reserve_total
-      claim-added q =
-          let p = e ∙ totals-passed n (sym number ∙ h) in
-          rw (ap (λ (y : Totals). y.given) p, ap (λ (y : Totals). y.replaced) p, totals-passed (n + 1) (next ∙ q), add-one n)
+    pub claim-added :
+        0 ≡ open_claim_check rates list v n
+        → Ok (record {
+          given = add binary64 x.given (reserve_of rates (claim_cell list n) (next_duration list n) t (months_left list n) v);
+          replaced = add binary64 x.replaced (reserve_of rates (claim_cell list n) (next_duration list n) other (months_left list n) v);
+        })
+        ≡ totals_of rates list t other v (n + 1)
+    unfolding reserve_total
+    claim-added q =
+        let p = e ∙ totals-passed n (all-passed n x e) in
+        let s : x ≡ record { given = reserve_total rates list t v n; replaced = reserve_total rates list other v n } = cc in
+        rw (ap (λ (y : Totals). y.given) s, ap (λ (y : Totals). y.replaced) s, totals-passed (n + 1) (next ∙ sym q), add-one n)
 
 -- the answers
 module _ (rates list t : List ℕ) (count : ℕ) (v : Float) where
-  pub list-refused : list_sound list ≡ false → refused_limit 17 ≡ limit_of rates list t count v
-  unfolding limit_of limit_check refused_limit ◌then◌
-  list-refused f = simp f
+  refused : (r : Refusal) → number_of r ≡ limit_check rates list v → limit_by_number (Err r) ≡ limit_of rates list t count v
+  unfolding limit_of
+  refused r e = rw e (simp (ne_eqb (limit_check rates list v) 0 (not-zero r _ e)))
 
-  module _ (sound : list_sound list ≡ true) (x : Totals) (e : x ≡ totals_of rates list t (replaced_t t count) v (claims_open_in list)) where
-    passed-list : limit_check rates list v ≡ x.refused
+  pub list-refused : list_sound list ≡ false → limit_by_number (Err OpenClaims) ≡ limit_of rates list t count v
+  unfolding limit_check ◌then◌
+  list-refused f = refused OpenClaims (simp f)
+
+  module _ (sound : list_sound list ≡ true) where
+    claims-decide : limit_check rates list v ≡ open_claims_check rates list v (claims_open_in list)
     unfolding limit_check
-    passed-list = simp sound (then_next 0 _ refl) ∙ sym (number rates list t (replaced_t t count) v (claims_open_in list) x e)
+    claims-decide = simp sound (then_next 0 _ refl)
 
-    pub claims-refused : (x.refused ≡ 0 → ⊥) → refused_limit x.refused ≡ limit_of rates list t count v
-    unfolding limit_of refused_limit
-    claims-refused f = rw passed-list (simp (ne_eqb x.refused 0 f))
+    pub claims-refused :
+        (r : Refusal) → Err (number_of r) ≡ totals_of rates list t (replaced_t t count) v (claims_open_in list)
+        → limit_by_number (Err r) ≡ limit_of rates list t count v
+    claims-refused r e = refused r (one-failed rates list t (replaced_t t count) v (claims_open_in list) r e ∙ sym claims-decide)
 
-    module _ (h : x.refused ≡ 0) where
+    module _ (x : Totals) (e : Ok x ≡ totals_of rates list t (replaced_t t count) v (claims_open_in list)) where
+      all : open_claims_check rates list v (claims_open_in list) ≡ 0
+      all = all-passed rates list t (replaced_t t count) v (claims_open_in list) x e
+
       answered : x ≡ record {
-        refused = 0;
         given = reserve_total rates list t v (claims_open_in list);
         replaced = reserve_total rates list (replaced_t t count) v (claims_open_in list);
       }
-      answered = e ∙ totals-passed rates list t (replaced_t t count) v (claims_open_in list) (sym (number rates list t (replaced_t t count) v (claims_open_in list) x e) ∙ h)
+      answered = let p = e ∙ totals-passed rates list t (replaced_t t count) v (claims_open_in list) all in cc
 
       pub judged-replaced :
           lt x.given x.replaced ≡ true
@@ -135,7 +147,7 @@ module _ (rates list t : List ℕ) (count : ℕ) (v : Float) where
       judged-replaced f =
           let g = ap (λ (y : Totals). y.given) answered in
           let r = ap (λ (y : Totals). y.replaced) answered in
-          simp (passed-list ∙ h, ← g, ← r, f)
+          simp (claims-decide ∙ all, ← g, ← r, f)
 
       pub judged-given :
           lt x.given x.replaced ≡ false
@@ -144,4 +156,4 @@ module _ (rates list t : List ℕ) (count : ℕ) (v : Float) where
       judged-given f =
           let g = ap (λ (y : Totals). y.given) answered in
           let r = ap (λ (y : Totals). y.replaced) answered in
-          simp (passed-list ∙ h, ← g, ← r, f)
+          simp (claims-decide ∙ all, ← g, ← r, f)

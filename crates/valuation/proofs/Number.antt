@@ -7,8 +7,7 @@ use mathlib.Core.List.{List}
 use native.Mathlib.Omega.{arith}
 use native.Mathlib.Nat.{le_trans, le_of_eq, mul-pos, mul-le-mul, mul-le-mul_right}
 use borrow.Author.Tests.{eqb-true}
-use lib.Dec.{T, leb, ltb, eqb}
-use lib.IntN.{pos}
+use lib.Dec.{T, ltb, eqb}
 use lib.Ieee.{Float, nan, inf, fin, Format, binary64, prec, emax, low, up, down, odd, units, round, of_int, sum, add, mul, div, lt, eq, le, is_nan}
 use lib.Ieee.Fits.{down_pos, round_is}
 use lib.Ieee.Exact.{HasValue}

@@ -8,13 +8,11 @@ use borrow.Author.Tests.{le-leb, lt-leb, leb-true, leb-false}
 use lib.IntN.{ℤ}
 use Rattle.basics.proofs.Tests.{tests, by}
 use Rattle.valuation.specs.declared.GroupFactor.{GroupFactor}
-use Rattle.valuation.specs.declared.MaybeFactor.TheVariants.{Known}
-use Rattle.valuation.specs.declared.MaybeCount.{MaybeCount}
-use Rattle.valuation.specs.declared.MaybeCount.TheVariants.{Count, Refused}
 use Rattle.valuation.specs.Factor.{IsSmallest, smallest, factor_sound, factors_of, factor_in}
 use Rattle.valuation.specs.WantedCount.{reaches_wanted, good_group, wanted_in, Reaches, FallsShort, IsWanted, WantedCount}
 use Rattle.valuation.proofs.Laws.{clash, smallest-one}
 use Rattle.valuation.proofs.WantedLaws.{wanted-rises, smallest-up-to}
+use Rattle.std.specs.Prelude.{Err, Ok, Result}
 
 module _ (g : ℕ) (e : ℤ) (wanted : ℕ) where
   abbrev P : ℕ → Bool
@@ -22,13 +20,13 @@ module _ (g : ℕ) (e : ℤ) (wanted : ℕ) where
 
   -- with a good group each count up to 500,000 has its factors, and its T decides
   module _ (good : good_group g ≡ true) (c : ℕ) (l : c ≤ 500000) where
-    known : factor_in g c e ≡ Known (factors_of g c e)
+    known : factor_in g c e ≡ Ok (factors_of g c e)
     unfolding factor_in factor_sound good_group
     known =
         let t = simp and-eq-true_iff at good in
         simp (le-leb 1 g (omega tests), le-leb g 5 (omega tests), le-leb c 500000 l)
 
-    same-t : (f : GroupFactor) → factor_in g c e ≡ Known f → (factors_of g c e).t ≡ f.t
+    same-t : (f : GroupFactor) → factor_in g c e ≡ Ok f → (factors_of g c e).t ≡ f.t
     same-t f q =
         let k = known in
         let same : factors_of g c e ≡ f = cc in
@@ -51,15 +49,15 @@ module _ (g : ℕ) (e : ℤ) (wanted : ℕ) where
     short r = lt-leb wanted (factors_of g c e).t (omega (arith, same-t r.0 r.1, r.2))
 
   -- the three answers, and which tests lead to each
-  bad-group : good_group g ≡ false → wanted_in g e wanted ≡ Refused 12
+  bad-group : good_group g ≡ false → wanted_in g e wanted ≡ Err 12
   unfolding wanted_in
   bad-group b = simp b
 
-  no-count : good_group g ≡ true → P 500000 ≡ false → wanted_in g e wanted ≡ Refused 19
+  no-count : good_group g ≡ true → P 500000 ≡ false → wanted_in g e wanted ≡ Err 19
   unfolding wanted_in
   no-count good h = simp (good, h)
 
-  a-count : good_group g ≡ true → P 500000 ≡ true → wanted_in g e wanted ≡ Count (smallest P 500000)
+  a-count : good_group g ≡ true → P 500000 ≡ true → wanted_in g e wanted ≡ Ok (smallest P 500000)
   unfolding wanted_in
   a-count good h = simp (good, h)
 
@@ -75,15 +73,15 @@ module _ (g : ℕ) (e : ℤ) (wanted : ℕ) where
   all_short f k l = by (P k) (λ s. s ≡ false) (λ h. clash (wanted-rises g e wanted k 500000 l h) f) (λ h. refl)
 
 -- no two answers are one
-count-or-refused : {Q : Type 0} {x : MaybeCount} {c n : ℕ} → x ≡ Count c → x ≡ Refused n → Q
+count-or-refused : {Q : Type 0} {x : Result ℕ ℕ} {c n : ℕ} → x ≡ Ok c → x ≡ Err n → Q
 count-or-refused p q = let z : ◌≡◌ {A = ℕ} 0 1 = cc in absurd (omega arith)
 
-one_number : {Q : Type 0} {x : MaybeCount} → x ≡ Refused 19 → x ≡ Refused 12 → Q
+one_number : {Q : Type 0} {x : Result ℕ ℕ} → x ≡ Err 19 → x ≡ Err 12 → Q
 one_number p q = let z : ◌≡◌ {A = ℕ} 19 12 = cc in absurd (omega arith)
 
 -- the count answered, taken apart; a smallest count is the one answered
 module _ (g : ℕ) (e : ℤ) (wanted : ℕ) (good : good_group g ≡ true) (c : ℕ) where
-  answered : P g e wanted 500000 ≡ true → wanted_in g e wanted ≡ Count c → IsWanted g e wanted c
+  answered : P g e wanted 500000 ≡ true → wanted_in g e wanted ≡ Ok c → IsWanted g e wanted c
   answered h q =
       let a = a-count g e wanted good h in
       let same : smallest (P g e wanted) 500000 ≡ c = cc in
@@ -94,7 +92,7 @@ module _ (g : ℕ) (e : ℤ) (wanted : ℕ) (good : good_group g ≡ true) (c : 
         λ k m. falls-short g e wanted good k (omega arith) (below-short g e wanted c k i m),
       )
 
-  is-answered : IsWanted g e wanted c → wanted_in g e wanted ≡ Count c
+  is-answered : IsWanted g e wanted c → wanted_in g e wanted ≡ Ok c
   is-answered w =
       let h = reached g e wanted good c w.0 w.1 in
       let fits : (k : ℕ) → k < c → k ≤ 500000 = λ k m. omega (arith, w.0) in
@@ -102,7 +100,7 @@ module _ (g : ℕ) (e : ℤ) (wanted : ℕ) (good : good_group g ≡ true) (c : 
       let no : (k < c → ⊥) = λ m. clash q (short g e wanted good k (fits k m) (w.2 k m)) in
       omega arith in
       a-count g e wanted good (wanted-rises g e wanted c 500000 w.0 h)
-      ∙ ap Count (smallest-one (smallest-up-to g e wanted c w.0 h) (record { has = h; best = least }))
+      ∙ ap Ok (smallest-one (smallest-up-to g e wanted c w.0 h) (record { has = h; best = least }))
 
 pub wanted-count : WantedCount
 wanted-count g e wanted =

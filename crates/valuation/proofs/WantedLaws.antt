@@ -11,8 +11,8 @@ use Rattle.basics.proofs.Tests.{tests, by, is-pick}
 use Rattle.valuation.specs.Factor.{IsSmallest, smallest, positive, z_reaches, credibility, factor_of, factors_of}
 use Rattle.valuation.specs.WantedCount.{reaches_wanted, good_group, wanted_in}
 use Rattle.valuation.specs.Private.{first_reaching}
-use Rattle.valuation.specs.declared.MaybeCount.TheVariants.{Count, Refused}
 use Rattle.valuation.proofs.Laws.{Rises, smallest-is, smallest-one, smallest-at, t-rises}
+use Rattle.std.specs.Prelude.{Err, Ok}
 
 pub wanted-rises : (g : ℕ) (e : ℤ) (wanted : ℕ) → Rises (reaches_wanted g e wanted)
 unfolding reaches_wanted
@@ -53,7 +53,7 @@ module _ (g : ℕ) (e : ℤ) (wanted : ℕ) where
 
   -- what the call answers, from where the search ended
   module _ (good : good_group g ≡ true) where
-    pub over : (c : ℕ) → c ≡ first_reaching g e wanted → 500001 ≤ c → Refused 19 ≡ wanted_in g e wanted
+    pub over : (c : ℕ) → c ≡ first_reaching g e wanted → 500001 ≤ c → Err 19 ≡ wanted_in g e wanted
     unfolding first_reaching wanted_in
     over c q l =
         rw good
@@ -61,11 +61,11 @@ module _ (g : ℕ) (e : ℤ) (wanted : ℕ) where
         (λ h. absurd (omega (arith, rw h at q, (smallest-up-to 500000 (le_refl _) h).best 500000 h)))
         (λ h. refl))
 
-    pub under : (c : ℕ) → c ≡ first_reaching g e wanted → c ≤ 500000 → Count c ≡ wanted_in g e wanted
+    pub under : (c : ℕ) → c ≡ first_reaching g e wanted → c ≤ 500000 → Ok c ≡ wanted_in g e wanted
     unfolding first_reaching wanted_in
     under c q l =
         rw good
-        (is-pick (reaches_wanted g e wanted 500000) (λ h. ap Count (rw h at q)) (λ h. absurd (omega (arith, rw h at q))))
+        (is-pick (reaches_wanted g e wanted 500000) (λ h. ap Ok (rw h at q)) (λ h. absurd (omega (arith, rw h at q))))
 
 -- the answer depends on the positive part alone of E
 pub wanted-of-positive : (g : ℕ) (e : ℤ) (wanted : ℕ) → wanted_in g (pos (positive e)) wanted ≡ wanted_in g e wanted

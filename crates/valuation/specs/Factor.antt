@@ -1,11 +1,9 @@
 -- Document 01, Valuation: z, m and T of a group, from C (recoveries plus deaths) and E (both expected sums together, unit 1/30,000,000 of a count).
-use Rattle.std.specs.Prelude.{ℕ, zero, suc, ◌+◌, ◌-◌, ◌*◌, ◌/◌, ◌≤◌, min, ◌≡◌, Bool, true, ◌&&◌, leb, eqb, ℤ, pos, negsuc}
+use Rattle.std.specs.Prelude.{ℕ, zero, suc, ◌+◌, ◌-◌, ◌*◌, ◌/◌, ◌≤◌, min, ◌≡◌, Bool, true, ◌&&◌, leb, eqb, ℤ, pos, negsuc, Err, Ok, Result}
 use Rattle.basics.specs.Limits.{most_claims}
 use Rattle.basics.specs.Pick.{pick}
 use Rattle.basics.specs.Checks.{refuse_valuation}
 use Rattle.valuation.specs.declared.GroupFactor.{GroupFactor}
-use Rattle.valuation.specs.declared.MaybeFactor.{MaybeFactor}
-use Rattle.valuation.specs.declared.MaybeFactor.TheVariants.{Known, Refused}
 
 -- q is the largest number up to n with a property: it has it, and no better one does
 pub record IsLargest (P : ℕ → Bool) (n q : ℕ) : Type 0 where
@@ -73,5 +71,5 @@ factors_of g c e =
     (record { z = credibility g e; m = margin g c; t = factor_of g c e })
 
 -- what the call for z, m and T answers
-unfoldable pub factor_in : ℕ → ℕ → ℤ → MaybeFactor
-factor_in g c e = pick (factor_sound g c) (Known (factors_of g c e)) (Refused refuse_valuation)
+unfoldable pub factor_in : ℕ → ℕ → ℤ → Result GroupFactor ℕ
+factor_in g c e = pick (factor_sound g c) (Ok (factors_of g c e)) (Err refuse_valuation)

@@ -2,6 +2,7 @@
 pub mod Factor
 pub mod Rate
 pub mod Reserve
+pub mod LimitAnswers
 pub mod ReserveLimit
 pub mod WantedCount
 pub mod StudyFactor

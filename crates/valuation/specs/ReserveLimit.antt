@@ -5,7 +5,7 @@ use Rattle.std.specs.Float.Ieee.{add, lt, le}
 use Rattle.basics.specs.Pick.{pick}
 use Rattle.basics.specs.Checks.{check, ◌then◌, refuse_open_claims}
 use Rattle.valuation.specs.Reserve.{float, reserve_of, reserve_check}
-use Rattle.valuation.specs.declared.LimitAnswer.{LimitAnswer}
+use Rattle.valuation.specs.LimitAnswers.{LimitAnswer}
 
 -- An open claim is three numbers of the list: cell, next duration, months left. Claims are counted from 0
 abbrev pub claim_cell : List ℕ → ℕ → ℕ

@@ -2,11 +2,13 @@
 ghost use Rattle.std.specs.Prelude.{◌≡◌, ◌+◌, ◌-◌, ◌*◌, ◌/◌, ◌≤◌, ◌<◌, eqb, pos};
 ghost use Rattle.basics.specs.Limits.{most_claims};
 ghost use Rattle.basics.specs.Pick.{pick};
+ghost use Rattle.basics.specs.Refused.{numbered};
 ghost use Rattle.valuation.specs.Factor.{group_k, group_twice_a, positive, credibility, margin, factors_of, factor_in};
+ghost use Rattle.valuation.specs.WantedCount.{good_group};
 
-use crate::{GroupFactor, MaybeFactor};
+use crate::GroupFactor;
 use basics::limits::MOST_CLAIMS;
-use basics::refusal;
+use basics::refusal::Refusal;
 
 // The one of four numbers that is the group's, 2 to 5.
 fn of_group(group: u8, second: u64, third: u64, fourth: u64, fifth: u64) -> u64
@@ -38,28 +40,15 @@ fn twice_a_of(group: u8) -> u64
 pub(crate) fn positive_part(expected: i64) -> u64
     ensures { result ≡ positive expected }
 {
-    if expected <= 0 {
-        return 0;
-    }
-    expected as u64
+    expected.max(0) as u64
 }
 
-// The largest q with q² × unit ≤ bound, by halving: low is such a q, high is none. No root asked for passes 2,060,000, which is r where C = 1 and A = 4.
+// The largest q with q² × unit ≤ bound: none asked for passes 2,060,000, which is r where C = 1 and A = 4.
 fn root(unit: u64, bound: u64) -> u64
     requires { (unit ≤ most_claims) × (bound < 2060000 * 2060000 * unit) }
     ensures { (result < 2060000) × (result * result * unit ≤ bound) × (bound < (result + 1) * (result + 1) * unit) }
 {
-    let mut low = 0;
-    let mut high = 2060000;
-    while low + 1 < high {
-        let middle = low + (high - low) / 2;
-        if middle * middle * unit <= bound {
-            low = middle;
-        } else {
-            high = middle;
-        }
-    }
-    low
+    (bound / unit).isqrt()
 }
 
 // z of a group above 1.
@@ -82,10 +71,7 @@ pub(crate) fn margin_of(group: u8, terminations: u64) -> u64
         return 150000;
     }
     let r = root(terminations, 530450000000 * twice_a_of(group) - 1) + 1;
-    if r < 120000 {
-        return 30000 + r;
-    }
-    150000
+    (30000 + r).min(150000)
 }
 
 // T of a group above 1.
@@ -113,32 +99,38 @@ fn factors_of(group: u8, terminations: u64, expected: u64) -> GroupFactor
     }
 }
 
-// z, m and T of a group from C and the positive part of E, on which alone of E they depend, or the number refused.
-pub(crate) fn known_factor(group: u8, terminations: u64, expected: u64) -> MaybeFactor
-    ensures { result ≡ factor_in group terminations (pos expected) }
+// Whether a group is one of the five. Kept: a group is a number and no enum, as C hands it over; what is none gets check 12.
+#[tactic(auto, unfolding(crate::specs::WantedCount::good_group))]
+pub(crate) fn is_group(group: u8) -> bool
+    ensures { result ≡ good_group group }
 {
-    if group < 1 {
-        return MaybeFactor::Refused(refusal::VALUATION);
-    }
-    if 5 < group {
-        return MaybeFactor::Refused(refusal::VALUATION);
-    }
-    if terminations > MOST_CLAIMS as u64 {
-        return MaybeFactor::Refused(refusal::VALUATION);
+    (1..=5).contains(&group)
+}
+
+// z, m and T of a group from C and the positive part of E, on which alone of E they depend, or the check that fails.
+pub(crate) fn known_factor(
+    group: u8,
+    terminations: u64,
+    expected: u64,
+) -> Result<GroupFactor, Refusal>
+    ensures { numbered result ≡ factor_in group terminations (pos expected) }
+{
+    if !is_group(group) || terminations > u64::from(MOST_CLAIMS) {
+        return Err(Refusal::Valuation);
     }
     if group == 1 {
-        return MaybeFactor::Known(GroupFactor {
+        return Ok(GroupFactor {
             z: 0,
             m: 0,
             t: 1000000,
         });
     }
-    MaybeFactor::Known(factors_of(group, terminations, expected))
+    Ok(factors_of(group, terminations, expected))
 }
 
-// z, m and T of a group from C (recoveries plus deaths) and E (expected recoveries plus deaths), or the number refused.
-pub fn factor(group: u8, terminations: u32, expected: i64) -> MaybeFactor
-    ensures { result ≡ factor_in group terminations expected }
+// z, m and T of a group from C (recoveries plus deaths) and E (expected recoveries plus deaths), or the check that fails.
+pub fn factor(group: u8, terminations: u32, expected: i64) -> Result<GroupFactor, Refusal>
+    ensures { numbered result ≡ factor_in group terminations expected }
 {
-    known_factor(group, terminations as u64, positive_part(expected))
+    known_factor(group, u64::from(terminations), positive_part(expected))
 }

@@ -16,38 +16,16 @@ pub struct GroupFactor {
     pub t: u64,
 }
 
-// z, m and T, or the number refused.
-#[derive(Clone, Copy)]
-pub enum MaybeFactor {
-    Known(GroupFactor),
-    Refused(u8),
-}
-
-// A valuation rate in millionths, or the number refused.
-#[derive(Clone, Copy)]
-pub enum MaybeRate {
-    Rate(u32),
-    Refused(u8),
-}
-
-// The reserve factor, or the number refused.
+// The reserve factor, or the number refused. Kept: document 01 names this form.
 #[derive(Clone, Copy)]
 pub enum Reserve {
     Factor(f64),
     Refused(u8),
 }
 
-// A count of closings, or the number refused.
+// The set of T that the limit on reserves allows, with both total reserves.
 #[derive(Clone, Copy)]
-pub enum MaybeCount {
-    Count(u32),
-    Refused(u8),
-}
-
-// The set of T that the limit on reserves allows, with both total reserves; a refusal has its number and zeros.
-#[derive(Clone, Copy)]
-pub struct LimitAnswer {
-    pub refused: u8,
+pub struct Limit {
     pub t: [u64; 5],
     pub given: f64,
     pub replaced: f64,

@@ -1,14 +1,14 @@
 // How many closings reach a wanted factor (document 02, No. 11).
 ghost use Rattle.std.specs.Prelude.{◌≡◌, ◌≤◌, pos};
 ghost use Rattle.basics.specs.Limits.{most_claims};
+ghost use Rattle.basics.specs.Refused.{numbered};
 ghost use Rattle.valuation.specs.Factor.{credibility};
-ghost use Rattle.valuation.specs.WantedCount.{reaches_wanted, good_group, wanted_in};
+ghost use Rattle.valuation.specs.WantedCount.{reaches_wanted, wanted_in};
 ghost use Rattle.valuation.specs.Private.{first_reaching};
 
-use crate::MaybeCount;
-use crate::factor::{credibility_of, margin_of, positive_part, t_of};
+use crate::factor::{credibility_of, is_group, margin_of, positive_part, t_of};
 use basics::limits::MOST_CLAIMS;
-use basics::refusal;
+use basics::refusal::Refusal;
 
 // Whether T of a count is at least the wanted one. Its z is given, since no count changes it.
 fn reaches(group: u8, z: u64, count: u64, expected: u64, wanted: u64) -> bool
@@ -30,6 +30,7 @@ fn first_reaching(group: u8, expected: u64, wanted: u64) -> u64
     if reaches(group, z, 0, expected, wanted) {
         return 0;
     }
+    // Kept: std halves slices alone, and no slice holds the counts.
     let mut low = 0;
     let mut high = 500001;
     while low + 1 < high {
@@ -43,32 +44,23 @@ fn first_reaching(group: u8, expected: u64, wanted: u64) -> u64
     low + 1
 }
 
-fn is_group(group: u8) -> bool
-    ensures { result ≡ good_group group }
-{
-    if group < 1 {
-        return false;
-    }
-    group <= 5
-}
-
-// The smallest count that reaches the wanted T with the positive part of E, on which alone of E it depends, or the number refused.
-fn known_count(group: u8, expected: u64, wanted: u64) -> MaybeCount
-    ensures { result ≡ wanted_in group (pos expected) wanted }
+// The smallest count that reaches the wanted T with the positive part of E, on which alone of E it depends, or the check that fails.
+fn known_count(group: u8, expected: u64, wanted: u64) -> Result<u32, Refusal>
+    ensures { numbered result ≡ wanted_in group (pos expected) wanted }
 {
     if !is_group(group) {
-        return MaybeCount::Refused(refusal::VALUATION);
+        return Err(Refusal::Valuation);
     }
     let count = first_reaching(group, expected, wanted);
-    if count > MOST_CLAIMS as u64 {
-        return MaybeCount::Refused(refusal::NO_COUNT);
+    if count > u64::from(MOST_CLAIMS) {
+        return Err(Refusal::NoCount);
     }
-    MaybeCount::Count(count as u32)
+    Ok(count as u32)
 }
 
-// The smallest count of closings, up to 500,000, whose T reaches the wanted one, or the number refused.
-pub fn wanted_count(group: u8, expected: i64, wanted: u64) -> MaybeCount
-    ensures { result ≡ wanted_in group expected wanted }
+// The smallest count of closings, up to 500,000, whose T reaches the wanted one, or the check that fails.
+pub fn wanted_count(group: u8, expected: i64, wanted: u64) -> Result<u32, Refusal>
+    ensures { numbered result ≡ wanted_in group expected wanted }
 {
     known_count(group, positive_part(expected), wanted)
 }

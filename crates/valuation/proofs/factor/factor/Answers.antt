@@ -11,6 +11,7 @@ use Rattle.valuation.proofs.factor.factor.Goals as goal
 pub returns : goal.returns
 returns c =
     let a = c.args in
-    c.known_factor.ensures
+    let known = rw c.from.ensures at c.known_factor.ensures in
+    known
     ∙ ap (λ (e : ℕ). factor_in a.group a.terminations (pos e)) (c.positive_part.ensures ∙ ap positive (to_z-of_z c.ranges.expected))
     ∙ of_positive a.group a.terminations a.expected

@@ -28,16 +28,6 @@ overflow_sub-twice_a_of c = omega (arith, twice-a-bounds c.args.group)
 pub root-r-requires : goal.root-r-requires
 root-r-requires c = omega (arith, twice-a-bounds c.args.group)
 
-pub returns-then-r-lt120000 : goal.returns-then-r-lt120000
-returns-then-r-lt120000 c =
-    let found : margin c.args.group c.args.terminations ≡ min 150000 (30000 + (c.root-r.result + 1)) = let a = c.args in
-    let r = c.root-r.ensures in
-    let l : 1 ≤ a.terminations = omega arith in
-    margin-above a.group a.terminations l
-    ∙ ap (λ (n : ℕ). min 150000 (30000 + n))
-    (sym (next a.group a.terminations _ _ c.twice_a_of.ensures l r.1 r.2)) in
-    omega (arith, found)
-
 pub returns : goal.returns
 returns c =
     let found : margin c.args.group c.args.terminations ≡ min 150000 (30000 + (c.root-r.result + 1)) = let a = c.args in
@@ -46,4 +36,5 @@ returns c =
     margin-above a.group a.terminations l
     ∙ ap (λ (n : ℕ). min 150000 (30000 + n))
     (sym (next a.group a.terminations _ _ c.twice_a_of.ensures l r.1 r.2)) in
+    let low = c.min.ensures in
     omega (arith, found)

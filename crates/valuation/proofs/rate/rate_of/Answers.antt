@@ -11,11 +11,6 @@ overflow_add-recovery c =
     let both : c.recovery.result + c.death.result ≤ 1000000 = omega (arith, rates-bound c.args.rates.now c.args.cell.0 c.args.duration.0 c.requires) in
     omega (arith, both)
 
-pub scaled-requires : goal.scaled-requires
-scaled-requires c =
-    let both : c.recovery.result + c.death.result ≤ 1000000 = omega (arith, rates-bound c.args.rates.now c.args.cell.0 c.args.duration.0 c.requires) in
-    both
-
 pub returns : goal.returns
 unfolding valuation_rate
 returns c =

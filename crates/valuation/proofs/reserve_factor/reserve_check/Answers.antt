@@ -1,13 +1,16 @@
 -- `valuation::reserve_factor::reserve_check` meets its contract: each way out has the definition's tests that lead there. Assumes nothing.
-use Prim.Native.Nat.{ℕ}
-use mathlib.Core.Path.{◌≡◌}
-use mathlib.Core.Bool.{true, ◌&&◌, and-false}
+use Prim.Native.Nat.{ℕ, ◌≤◌}
+use mathlib.Core.Path.{◌≡◌, sym, ap, ◌∙◌}
+use mathlib.Core.Bool.{Bool, true, false, ◌&&◌, and-false}
+use mathlib.Core.Logic.{⊎_elim}
 use borrow.Author.Tests.{le-leb, lt-leb}
-use native.Mathlib.Omega.{arith}
 use lib.Dec.{leb}
+use Rattle.basics.specs.Refused.{number_refused}
 use Rattle.valuation.specs.Rate.{duration_sound}
+use Rattle.valuation.specs.Reserve.{discount_sound}
 use Rattle.valuation.proofs.AnswerTests.{
-  reserve-table,
+  passed_on,
+  table-refused,
   reserve-duration,
   reserve-discount,
   reserve-passes,
@@ -16,52 +19,33 @@ use Rattle.valuation.proofs.AnswerTests.{
   discount-under,
 }
 use Rattle.valuation.proofs.reserve_factor.reserve_check.Goals as goal
+use Rattle.valuation.proofs.reserve_factor.reserve_check.Goals.{else-v-via-then-v+else-v-2, else-v-via-else-v}
 
-pub returns-then-failed-ne0 : goal.returns-then-failed-ne0
-returns-then-failed-ne0 c = reserve-table _ _ _ c.check-failed.ensures _ _ _ c.if-failed-ne0.true
+pub returns-in_err-check : goal.returns-in_err-check
+returns-in_err-check c = ap number_refused (passed_on _ _ c.from_residual.ensures) ∙ table-refused _ _ _ _ _ _ c.in_err-check.ensures
 
-pub returns-then-duration-lt2 : goal.returns-then-duration-lt2
-unfolding duration_sound
-returns-then-duration-lt2 c =
-    let d : ℕ = c.args.first.0 in
-    reserve-duration _ _ _ c.check-failed.ensures _ _ _ c.if-failed-ne0.false (simp (lt-leb 2 d (omega arith)))
+in-range : (first months : ℕ) → true ≡ duration_sound first → months ≤ 480 → (duration_sound first && leb months 480) ≡ true
+in-range first months h l = rw (← h, le-leb months 480 l)
 
-pub returns-then-duration-gt-LAST_DURATION : goal.returns-then-duration-gt-LAST_DURATION
-unfolding duration_sound
-returns-then-duration-gt-LAST_DURATION c =
-    let d : ℕ = c.args.first.0 in
-    reserve-duration _ _ _ c.check-failed.ensures _ _ _ c.if-failed-ne0.false
-    (simp (lt-leb d 480 (omega arith), and-false))
-
-pub returns-then-months-gt-LAST_DURATION : goal.returns-then-months-gt-LAST_DURATION
-returns-then-months-gt-LAST_DURATION c =
-    let n : ℕ = c.args.months in
-    reserve-duration _ _ _ c.check-failed.ensures _ _ _ c.if-failed-ne0.false
-    (simp (lt-leb n 480 (omega arith), and-false))
+pub returns-then-not-has_rate : goal.returns-then-not-has_rate
+returns-then-not-has_rate c =
+    let first : ℕ = c.args.first.0 in
+    let months : ℕ = c.args.months in
+    let out : (duration_sound first && leb months 480) ≡ false
+    = ⊎_elim (λ h. ap (λ (s : Bool). s && leb months 480) (sym c.has_rate.ensures ∙ h)) (λ p. simp (lt-leb months 480 p.1, and-false))
+    c.then-not-has_rate.either in
+    reserve-duration _ _ _ _ _ c.in_ok-check.ensures out
 
 pub returns-then-v-2 : goal.returns-then-v-2
-unfolding duration_sound
 returns-then-v-2 c =
-    let numbers-pass : (duration_sound c.args.first.0 && leb c.args.months 480) ≡ true = let d : ℕ = c.args.first.0 in
-    let n : ℕ = c.args.months in
-    simp (le-leb 2 d (omega arith), le-leb d 480 (omega arith), le-leb n 480 (omega arith)) in
-    reserve-passes _ _ _ c.check-failed.ensures _ _ _ c.if-failed-ne0.false numbers-pass
+    reserve-passes _ _ _ _ _ c.in_ok-check.ensures (in-range _ _ c.if-not-has_rate.ensures c.if-months-gt-LAST_DURATION.false)
     (discount-passes _ c.if-v.true c.if-v-2.true)
 
-pub returns-else-v-2 : goal.returns-else-v-2
-unfolding duration_sound
-returns-else-v-2 c =
-    let numbers-pass : (duration_sound c.args.first.0 && leb c.args.months 480) ≡ true = let d : ℕ = c.args.first.0 in
-    let n : ℕ = c.args.months in
-    simp (le-leb 2 d (omega arith), le-leb d 480 (omega arith), le-leb n 480 (omega arith)) in
-    reserve-discount _ _ _ c.check-failed.ensures _ _ _ c.if-failed-ne0.false
-    numbers-pass (discount-over _ c.if-v-2.false)
-
-pub returns-else-v : goal.returns-else-v
-unfolding duration_sound
-returns-else-v c =
-    let numbers-pass : (duration_sound c.args.first.0 && leb c.args.months 480) ≡ true = let d : ℕ = c.args.first.0 in
-    let n : ℕ = c.args.months in
-    simp (le-leb 2 d (omega arith), le-leb d 480 (omega arith), le-leb n 480 (omega arith)) in
-    reserve-discount _ _ _ c.check-failed.ensures _ _ _ c.if-failed-ne0.false
-    numbers-pass (discount-under _ c.if-v.false)
+pub returns : goal.returns
+returns c =
+    let out : discount_sound c.args.v ≡ false
+    = elim c.else-v.branch [
+      | else-v-via-then-v+else-v-2 w ↦ discount-over _ w.if-v-2.false
+      | else-v-via-else-v w ↦ discount-under _ w.if-v.false
+    ] in
+    reserve-discount _ _ _ _ _ c.in_ok-check.ensures (in-range _ _ c.if-not-has_rate.ensures c.if-months-gt-LAST_DURATION.false) out

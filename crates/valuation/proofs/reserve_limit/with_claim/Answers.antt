@@ -1,41 +1,27 @@
 -- `valuation::reserve_limit::with_claim` meets its contract: the claim's three numbers are read, checked, and both factors added to their totals.
 -- Assumes nothing.
-use mathlib.Core.Path.{◌≡◌, sym, ◌∙◌}
+use mathlib.Core.Path.{sym, ap, ◌∙◌}
+use Rattle.basics.specs.Refused.{numbered}
 use Rattle.valuation.specs.Reserve.{reserve_of}
 use Rattle.valuation.specs.ReserveLimit.{open_claim_check}
-use Rattle.valuation.proofs.ReserveLaws.{zero_bits}
-use Rattle.valuation.proofs.LimitAnswers.{claim-passed, totals-stay, claim-refused, claim-added}
+use Rattle.valuation.proofs.AnswerTests.{passed_on}
+use Rattle.valuation.proofs.LimitAnswers.{claim-passed, claim-refused, claim-added}
 use Rattle.valuation.proofs.reserve_limit.with_claim.Goals as goal
-use Rattle.valuation.proofs.reserve_limit.with_claim.Goals.{After-claim_check-failed}
 
--- the claim's checks, where they have been made
-checked : (c : After-claim_check-failed) → c.claim_check-failed.result ≡ open_claim_check c.args.rates.now c.args.list.now c.args.v c.args.place
+pub returns-in_err-claim_check : goal.returns-in_err-claim_check
 unfolding open_claim_check
-checked c = c.claim_check-failed.ensures
+returns-in_err-claim_check c =
+    ap numbered (passed_on _ _ c.from_residual.ensures)
+    ∙ claim-refused _ _ _ _ _ c.args.place _ c.requires.totals_value _ c.in_err-claim_check.ensures
 
-pub returns-then-totals-ne0 : goal.returns-then-totals-ne0
-returns-then-totals-ne0 c = totals-stay _ _ _ _ _ _ _ c.requires.totals_value c.if-totals-ne0.true
-
-pub returns-then-failed-ne0 : goal.returns-then-failed-ne0
-returns-then-failed-ne0 c =
-    let k = (goal.at.returns-then-failed-ne0 c).After-claim_check-failed in
-    rw zero_bits (claim-refused _ _ _ _ _ c.args.place _ c.requires.totals_value c.if-totals-ne0.false _ (checked k) c.if-failed-ne0.true)
-
-pub after-given-requires : goal.after-given-requires
-after-given-requires c =
-    let k = (goal.at.after-given-requires c).After-claim_check-failed in
-    let p = claim-passed _ _ _ _ (sym (checked k) ∙ c.if-failed-ne0.false) in
-    (p.0, p.1, p.2)
-
-pub after-replaced-requires : goal.after-replaced-requires
-after-replaced-requires c =
-    let k = (goal.at.after-replaced-requires c).After-claim_check-failed in
-    let p = claim-passed _ _ _ _ (sym (checked k) ∙ c.if-failed-ne0.false) in
-    (p.0, p.1, p.2)
+pub invariant_of-checked : goal.invariant_of-checked
+unfolding open_claim_check
+invariant_of-checked c =
+    let p = claim-passed _ _ _ c.args.place (sym c.in_ok-claim_check.ensures) in
+    record { table_sound = p.0; first_bound = p.1; months_bound = p.2 }
 
 pub returns : goal.returns
-unfolding reserve_of
+unfolding reserve_of open_claim_check
 returns c =
-    let k = (goal.at.returns c).After-claim_check-failed in
     rw (c.after-given.ensures, c.after-replaced.ensures)
-    (claim-added _ _ _ _ _ c.args.place _ c.requires.totals_value c.if-totals-ne0.false (sym (checked k) ∙ c.if-failed-ne0.false))
+    (claim-added _ _ _ _ _ c.args.place _ c.requires.totals_value c.in_ok-claim_check.ensures)

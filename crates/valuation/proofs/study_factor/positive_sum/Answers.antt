@@ -1,36 +1,36 @@
--- `valuation::study_factor::positive_sum` meets its contract: two sums of one sign add up by their sizes, and two of unlike signs within 64 signed bits.
--- Assumes nothing.
-use Prim.Native.Nat.{◌+◌}
-use mathlib.Core.Path.{◌≡◌, refl}
-use mathlib.Core.Bool.{true, false}
-use lib.IntN.{ℤ, pos, negsuc, nat_abs, ◌+ℤ◌}
-use lib.Signed.{lt_z}
-use mir.Facts.{to_z-of_z}
-use Rattle.basics.proofs.Tests.{tests}
+-- `valuation::study_factor::positive_sum` meets its contract: in 128 bits nothing of the sum is lost. Assumes nothing.
+use Rattle.std.proofs.Common.{arith, ◌<◌, ◌^◌, ℤ, pos, negsuc, ◌+ℤ◌, ◌≡◌, ◌∙◌, ap, refl, to_z, of_z, w64}
+use Rattle.std.specs.Int.{w128, int_max}
+use Rattle.std.proofs.lemmas.Int.{ints, clamps, to_z-of_z}
+use lib.IntN.{nat_abs}
+use lib.Signed.{mag}
+use mir.Val.{SFits}
 use Rattle.valuation.specs.Factor.{positive}
-use Rattle.valuation.proofs.Laws.{clash}
 use Rattle.valuation.proofs.study_factor.positive_sum.Goals as goal
 
--- two negative numbers have no positive sum
-none : (x y : ℤ) → lt_z x (pos 0) ≡ true → lt_z y (pos 0) ≡ true → 0 ≡ positive (x +ℤ y)
-unfolding positive
-none (pos a) y h i = absurd (omega tests)
-none (negsuc a) (pos b) h i = absurd (omega tests)
-none (negsuc a) (negsuc b) h i = refl
+sum-fits : (x y : ℤ) → mag x < 2 ^ 63 → mag y < 2 ^ 63 → mag (x +ℤ y) < 2 ^ 127
+sum-fits (pos a) (pos b) f g = omega arith
+sum-fits (pos a) (negsuc b) f g = grind (arith, ints)
+sum-fits (negsuc a) (pos b) f g = grind (arith, ints)
+sum-fits (negsuc a) (negsuc b) f g = omega arith
 
-sizes : (x y : ℤ) → lt_z x (pos 0) ≡ false → lt_z y (pos 0) ≡ false → nat_abs x + nat_abs y ≡ positive (x +ℤ y)
-unfolding positive
-sizes (pos a) (pos b) h i = refl
-sizes (pos a) (negsuc b) h i = clash refl i
-sizes (negsuc a) y h i = clash refl h
+-- the number at 128 bits
+wide : (z : ℤ) → SFits w64 z → to_z w128 (of_z w128 z) ≡ z
+wide z f = to_z-of_z w128 z (record { sfits = omega (arith, ints, f.sfits) })
 
-pub returns-then-other-lt0 : goal.returns-then-other-lt0
-returns-then-other-lt0 c =
-    none c.args.one c.args.other (rw (to_z-of_z c.ranges.one) at c.if-one-lt0.true) (rw (to_z-of_z c.ranges.other) at c.if-other-lt0.true)
+wide-sum : (x y : ℤ) → SFits w64 x → SFits w64 y → to_z w128 (of_z w128 (x +ℤ y)) ≡ x +ℤ y
+wide-sum x y f g = to_z-of_z w128 (x +ℤ y) (record { sfits = sum-fits x y f.sfits g.sfits })
+
+of-max : (z : ℤ) → nat_abs (int_max z (pos 0)) ≡ positive z
+unfolding positive
+of-max (pos n) = omega (arith, ints, clamps)
+of-max (negsuc n) = refl
 
 pub returns : goal.returns
 returns c =
     let x = c.args.one in
     let y = c.args.other in
-    rw (to_z-of_z c.ranges.one, to_z-of_z c.ranges.other)
-    (sizes x y (rw (to_z-of_z c.ranges.one) at c.if-one-lt0.false) (rw (to_z-of_z c.ranges.other) at c.if-other-lt0-2.false))
+    let f = c.from.ensures ∙ to_z-of_z w64 x c.ranges.one in
+    let g = c.from-2.ensures ∙ to_z-of_z w64 y c.ranges.other in
+    let m = rw (f, g, wide x c.ranges.one, wide y c.ranges.other, wide-sum x y c.ranges.one c.ranges.other) at c.max.ensures.value in
+    ap nat_abs (to_z-of_z w128 c.max.result (record { sfits = c.max.type_inv })) ∙ ap nat_abs m ∙ of-max (x +ℤ y)

@@ -3,20 +3,20 @@
 use Prim.Native.Nat.{ℕ}
 use mathlib.Core.Path.{◌≡◌, ap, ap₂, ◌∙◌}
 use mathlib.Core.List.{List}
-use borrow.Author.Rules.{rules}
 use lib.IntN.{ℤ, pos, ◌+ℤ◌}
 use mir.Syntax.{w64}
 use mir.Val.{SFits, to_z, of_z}
 use mir.Facts.{to_z-of_z}
 use Rattle.study.specs.Sums.{sum_at}
-use Rattle.valuation.specs.declared.MaybeFactor.{MaybeFactor}
 use Rattle.valuation.specs.Factor.{positive, factor_in}
 use Rattle.valuation.specs.StudyFactor.{terminations, expected_sum, study_factor}
 use Rattle.valuation.proofs.Laws.{of_positive}
 use Rattle.valuation.proofs.study_factor.study_factor.Goals as goal
+use Rattle.valuation.specs.declared.GroupFactor.{GroupFactor}
+use Rattle.std.specs.Prelude.{Result}
 
 -- from a group's sums, with E as its positive part
-from-sums : (s : List ℤ) (g n e : ℕ) (r : MaybeFactor) → n ≡ positive (sum_at s g 1 +ℤ sum_at s g 2) → e ≡ positive (sum_at s g 6 +ℤ sum_at s g 7)
+from-sums : (s : List ℤ) (g n e : ℕ) (r : Result GroupFactor ℕ) → n ≡ positive (sum_at s g 1 +ℤ sum_at s g 2) → e ≡ positive (sum_at s g 6 +ℤ sum_at s g 7)
     → r ≡ factor_in g n (pos e) → r ≡ study_factor s g
 unfolding study_factor terminations expected_sum
 from-sums s g n e r p q h =

@@ -10,8 +10,8 @@ pub returns-then-not-is_group : goal.returns-then-not-is_group
 unfolding wanted_in
 returns-then-not-is_group c = simp (sym c.is_group.ensures ∙ c.if-not-is_group.true)
 
-pub returns-then-count : goal.returns-then-count
-returns-then-count c =
+pub returns-then-count-from : goal.returns-then-count-from
+returns-then-count-from c =
     let good : good_group c.args.group ≡ true = sym c.is_group.ensures ∙ c.if-not-is_group.false in
     over _ _ _ good c.first_reaching-count.result c.first_reaching-count.ensures (omega arith)
 
