@@ -6,7 +6,7 @@ use mathlib.Core.List.{List, [], ◌∷◌, ◌++◌, append-nil, append_assoc}
 use native.Mathlib.Omega.{arith}
 use native.Mathlib.Nat.{mul-add-div, div-div-eq-div-mul, mul-add-mod_self_left}
 use native.Mathlib.Numerals.{add-one}
-use lib.ListN.{length, set, get_or, take, length-append, drop_of_length-le}
+use lib.ListN.{length, get_or, take, replicate, length-append, drop_of_length-le}
 use lib.Seq.{sets, sets-eq, take-suc, length-take-le}
 use borrow.Author.Tests.{le-leb}
 use Rattle.basics.proofs.Stores.{run}
@@ -26,26 +26,15 @@ unfolding zeros
 length-zeros zero = refl
 length-zeros (suc n) = ap suc (length-zeros n)
 
-pub zeros-more : (n : ℕ) → zeros n ++ (0 ∷ []) ≡ zeros (suc n)
-unfolding zeros
-zeros-more zero = refl
-zeros-more (suc n) = ap (λ (r : List ℕ). 0 ∷ r) (zeros-more n)
-
 pub length-all : (cs : List Claim) → length (all_claim_bytes cs) ≡ 32 * length cs
 unfolding all_claim_bytes claim_bytes
 length-all [] = refl
 length-all (c ∷ cs) = length-append (claim_bytes c) (all_claim_bytes cs) ∙ let h = length-all cs in omega arith
 
-pub two-stored : (l : List ℕ) (at v : ℕ) → v < 65536 → set (set l at (v % 256)) (at + 1) (v / 256) ≡ sets l at (two v)
-two-stored l at v h =
-    let p : at + 1 ≡ suc at = omega arith in
-    let q : v / 256 ≡ v / 256 % 256 = omega arith in
-    λ i. set (set l at (v % 256)) (p i) (q i)
-
-pub zero-stored : (l b : List ℕ) (from i : ℕ) → b ≡ sets l from (zeros i) → set b (from + i) 0 ≡ sets l from (zeros (i + 1))
-zero-stored l b from i e =
-    run l b (set b (from + i) 0) (zeros i) (0 ∷ []) from (from + i) (ap (λ (k : ℕ). from + k) (sym (length-zeros i))) e refl
-    ∙ ap (sets l from) (zeros-more i ∙ ap zeros (sym (add-one i)))
+pub zeros-replicate : (n : ℕ) → replicate n 0 ≡ zeros n
+unfolding zeros
+zeros-replicate zero = refl
+zeros-replicate (suc n) = ap (λ (r : List ℕ). 0 ∷ r) (zeros-replicate n)
 
 -- a number's four bytes, from its halves
 pub four_bytes : (n : ℕ)

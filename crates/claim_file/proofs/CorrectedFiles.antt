@@ -22,7 +22,7 @@ use Rattle.claim_months.specs.Windows.{window_sound, dates_window}
 use Rattle.claim_months.proofs.DateWindows.{dates-sound, both-dates}
 use Rattle.claim_months.proofs.Parts.{parts-map, parts-every, every_map}
 use Rattle.study.specs.declared.Study.{Study}
-use Rattle.study.specs.declared.Answer.{Answer}
+use Rattle.study.specs.Answers.{Answer}
 use Rattle.study.specs.Study.{sum_over, study_of, fresh, first_day_alone, opened}
 use Rattle.study.proofs.SumOver.{All}
 use Rattle.study.proofs.Capacity.{Accepted}
@@ -31,7 +31,7 @@ use Rattle.study.proofs.Members.{front as to_front}
 use Rattle.study.proofs.Totals.{same-totals, built-total}
 use Rattle.study.proofs.Demand3.{opens-window}
 use Rattle.claim_file.specs.declared.WindowDates.{WindowDates}
-use Rattle.claim_file.specs.declared.CorrectedRun.{CorrectedRun}
+use Rattle.claim_file.specs.Runs.{CorrectedRun}
 use Rattle.claim_file.specs.Bytes.{date_from}
 use Rattle.claim_file.specs.Block.{block_sound, window_bytes}
 use Rattle.claim_file.specs.Run.{adding}

@@ -15,8 +15,8 @@ use Rattle.basics.specs.Checks.{refuse_too_many_records}
 use Rattle.basics.proofs.Tests.{by}
 use Rattle.claim_months.specs.declared.Claim.{Claim}
 use Rattle.study.specs.declared.Study.{Study}
-use Rattle.study.specs.declared.Answer.{Answer}
-use Rattle.claim_file.specs.declared.CorrectedRun.{CorrectedRun}
+use Rattle.study.specs.Answers.{Answer}
+use Rattle.claim_file.specs.Runs.{CorrectedRun}
 use Rattle.claim_file.specs.Bytes.{byte_at}
 use Rattle.claim_file.specs.Block.{block_claim, block_sound}
 use Rattle.claim_file.specs.Run.{Adding}

@@ -9,7 +9,7 @@ use lib.Seq.{take-append-le, drop-append-le}
 use lib.Dec.{eqb}
 use borrow.Author.Tests.{eqb-true, eqb-false}
 use Rattle.basics.proofs.Tests.{by}
-use Rattle.claim_file.specs.declared.FileRun.{FileRun}
+use Rattle.claim_file.specs.Runs.{FileRun}
 use Rattle.claim_file.specs.Run.{Adding, block_fed, fed, FedInPieces}
 use Rattle.claim_file.proofs.Runs.{fed-refused, fed-none, fed-block}
 

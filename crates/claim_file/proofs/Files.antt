@@ -19,7 +19,7 @@ use Rattle.claim_months.specs.declared.Window.{Window}
 use Rattle.claim_months.specs.Windows.{window_sound, dates_window}
 use Rattle.claim_months.proofs.DateWindows.{dates-sound, both-dates}
 use Rattle.claim_months.proofs.Parts.{parts-map, parts-every, every_map}
-use Rattle.study.specs.declared.Answer.{Answer}
+use Rattle.study.specs.Answers.{Answer}
 use Rattle.study.specs.Study.{sum_over, study_of, fresh, opened}
 use Rattle.study.proofs.SumOver.{All, Commutes, good-sum, sum-append}
 use Rattle.study.proofs.Capacity.{Accepted}
@@ -27,7 +27,7 @@ use Rattle.study.proofs.Built.{number_after, added-after, zero-accepted, fresh-b
 use Rattle.study.proofs.Totals.{built-total}
 use Rattle.study.proofs.Demand3.{opens-window}
 use Rattle.claim_file.specs.declared.WindowDates.{WindowDates}
-use Rattle.claim_file.specs.declared.FileRun.{FileRun}
+use Rattle.claim_file.specs.Runs.{FileRun}
 use Rattle.claim_file.specs.Block.{block_claim, claim_count, framed, window_block, block_sound, window_bytes}
 use Rattle.claim_file.specs.Run.{adding, started, begun, going_on, stops, claims_from, block_fed, blocks_fed, part_fed, fed, ended, file_run_with}
 use Rattle.claim_file.specs.Files.{run_of, claims_of_block, claims_of_blocks, file_claims, Accepts, window_days, SameEnd, HasStudy, FilesDemand3}

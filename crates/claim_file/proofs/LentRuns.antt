@@ -9,15 +9,16 @@ use lib.Dec.{eqb}
 use lib.IntN.{ℤ}
 use borrow.Author.Tests.{eq-eqb, ne_eqb, eqb-true, eqb-false}
 use Rattle.basics.specs.Pick.{pick}
+use Rattle.basics.specs.declared.refusal.Refusal.{Refusal}
+use Rattle.basics.specs.Refused.{number_of}
 use Rattle.basics.proofs.Tests.{by}
 use Rattle.claim_months.specs.declared.Window.{Window}
-use Rattle.claim_months.specs.declared.MaybeWindow.TheVariants.{Known, Refused}
 use Rattle.claim_months.specs.Windows.{window_in}
 use Rattle.claim_months.proofs.DateWindows.{window-refused}
-use Rattle.study.specs.declared.Answer.{Answer}
+use Rattle.study.specs.Answers.{Answer}
 use Rattle.study.specs.Study.{fresh, first_day_alone, opened_with, opened}
 use Rattle.study.specs.PreparedAdding.{lent_study}
-use Rattle.claim_file.specs.declared.FileRun.{FileRun}
+use Rattle.claim_file.specs.Runs.{FileRun}
 use Rattle.claim_file.specs.declared.LentRun.{LentRun}
 use Rattle.claim_file.specs.Bytes.{date_from}
 use Rattle.claim_file.specs.Block.{claim_count, block_sound}
@@ -25,6 +26,7 @@ use Rattle.claim_file.specs.Run.{Adding, begun, going_on, stops, claims_from, bl
 use Rattle.claim_file.specs.LentRuns.{run_with}
 use Rattle.claim_file.specs.Private.{block_begun, lent_stops, lent_goes_on}
 use Rattle.claim_file.proofs.Runs.{begun-sound, claims-due, fed-refused, fed-turn}
+use Rattle.std.specs.Prelude.{Err, Ok}
 
 -- what begins a block: nothing if it is not sound, the run as it is at a later block, and the window of block 0 or its refusal
 module _ (r : FileRun) (bytes : List ℕ) where
@@ -37,12 +39,12 @@ module _ (r : FileRun) (bytes : List ℕ) where
     unfolding block_begun begun
     begun-later u h = rw (e, ne_eqb _ _ h) (λ i. record { study = r.study; due = r.due; refused = u i; block = r.block; place = r.place })
 
-    pub begun-window : r.due ≡ 0 → (w : Window) → Known w ≡ window_in (date_from bytes 16) (date_from bytes 20)
-        → record { study = fresh w; due = r.due; refused = 0; block = r.block; place = r.place } ≡ block_begun r bytes
+    pub begun-window : r.due ≡ 0 → r.block ≡ 0 → r.place ≡ 0 → (w : Window) → Ok w ≡ window_in (date_from bytes 16) (date_from bytes 20)
+        → record { study = fresh w; due = r.due; refused = 0; block = 0; place = 0 } ≡ block_begun r bytes
     unfolding block_begun begun opened opened_with
-    begun-window z w k = rw (e, eq-eqb _ _ z, ← k)
+    begun-window z b p w k = rw (e, eq-eqb _ _ z, ← k, b, p)
 
-    pub begun-no-window : r.due ≡ 0 → (n : ℕ) → Refused n ≡ window_in (date_from bytes 16) (date_from bytes 20) → stops r (fresh first_day_alone) n 0 ≡ block_begun r bytes
+    pub begun-no-window : r.due ≡ 0 → (n : ℕ) → Err n ≡ window_in (date_from bytes 16) (date_from bytes 20) → stops r (fresh first_day_alone) n 0 ≡ block_begun r bytes
     unfolding block_begun begun opened opened_with
     begun-no-window z n k = rw (e, eq-eqb _ _ z, ← k, (window-refused _ _ n k).1)
 
@@ -106,9 +108,10 @@ module _ (r : FileRun) (add : Adding) (bytes part : List ℕ) (p : part ≡ take
 
 -- a run that stops or goes on, with the sums so far
 module _ (r : LentRun) (from sums : List ℤ) (taken : ℕ) where
-  pub stops-with : (number place : ℕ) → run_with (lent_stops r taken number place) sums ≡ stops (run_with r from) (lent_study r.window taken sums) number place
+  pub stops-with : (refusal : Refusal) (place : ℕ)
+      → run_with (lent_stops r taken refusal place) sums ≡ stops (run_with r from) (lent_study r.window taken sums) (number_of refusal) place
   unfolding run_with lent_stops stops
-  stops-with number place = refl
+  stops-with refusal place = refl
 
   pub goes-on-with : run_with (lent_goes_on r taken) sums ≡ going_on (run_with r from) (lent_study r.window taken sums)
   unfolding run_with lent_goes_on going_on

@@ -17,6 +17,7 @@ pub mod WholeRuns
 mod BlockTrips
 pub mod Runs
 mod LentRuns
+mod Stops
 mod RecordParts
 mod BlockTests
 mod Changed

@@ -11,9 +11,12 @@ use lib.Seq.{get_or-set_same, get_or-set_other, get_or-take, get_or-drop, take-l
 use lib.Dec.{eqb, ltb}
 use lib.Bits.{bit_or, or_shr, or_mod, or_zero_l, or_zero_r, or_self}
 use borrow.Author.Tests.{eqb-true, eqb-false, eq-eqb, ne_eqb}
+use Rattle.std.specs.List.Sorted.{IsPermutation}
+use Rattle.std.proofs.lemmas.List.Sorted.{IsPermutation-sym, length_permutation}
 use Rattle.basics.specs.Pick.{pick}
 use Rattle.basics.proofs.Tests.{by, tests, all_below, all-at}
-use Rattle.claim_file.specs.Marks.{among, superseded, marked, repeated, key_of, KeysTaken, KeyAt, SameKeys, ChunkKeys, HasLater, MarksTo, AllZero}
+use Rattle.claim_file.specs.Marks.{among, superseded, marked, repeated, key_of, KeysTaken, KeyAt, ChunkKeys, HasLater, MarksTo, AllZero}
+use Rattle.claim_file.proofs.Sorting.{key-moved}
 
 -- bit j of the m-th power of two, of eight bits
 abbrev power_bit : ℕ → ℕ → Bool
@@ -92,11 +95,11 @@ among_in x [] k h e = absurd (omega arith)
 among_in x (y ∷ ys) zero h e = rw (eq-eqb y x e)
 among_in x (y ∷ ys) (suc k) h e = by (eqb y x) (λ t. (t || among x ys) ≡ true) (λ _. refl) (λ _. among_in x ys k (omega arith) e)
 
-among-out : (x : ℕ) (ys : List ℕ) → among x ys ≡ true → KeyAt ys (length ys) x
+among-out : (x : ℕ) (ys : List ℕ) → among x ys ≡ true → KeyAt ys x
 unfolding among
 among-out x [] e = absurd (false≢true e)
 among-out x (y ∷ ys) e =
-    by (eqb y x) (λ t. (t || among x ys) ≡ true → KeyAt (y ∷ ys) (length (y ∷ ys)) x)
+    by (eqb y x) (λ t. (t || among x ys) ≡ true → KeyAt (y ∷ ys) x)
     (λ u _. record { place = 0; within = omega arith; same = sym (eqb-true y x u) })
     (λ u w. let p = among-out x ys w in record { place = suc p.place; within = omega (arith, p.within); same = p.same })
     e
@@ -147,9 +150,9 @@ repeated-all : (xs : List ℕ) (i : ℕ) → repeated xs i (length xs) ≡ super
 unfolding repeated superseded
 repeated-all xs i = ap (λ (ys : List ℕ). among (get_or xs i 0) (drop (suc i) ys)) (take-length xs)
 
--- what the keys of a chunk, the n records before e, say of record i before e
-module _ (xs keys : List ℕ) (s n e i : ℕ) (c : ChunkKeys xs s n keys) (q : s + n ≡ e) (h : i < e) (l : e ≤ length xs) (m : e ≤ 65536) (r : Bool)
-    (f : HasLater keys n (key_of (get_or xs i 0) i) r) where
+-- what the keys of a chunk, the last records before e, say of record i before e
+module _ (xs keys : List ℕ) (s e i : ℕ) (c : ChunkKeys xs s keys) (q : s + length keys ≡ e) (h : i < e) (l : e ≤ length xs) (m : e ≤ 65536) (r : Bool)
+    (f : HasLater keys (key_of (get_or xs i 0) i) r) where
   pub later-is : r ≡ true → repeated xs i e ≡ true
   later-is t =
       let w = f.found t in
@@ -223,19 +226,20 @@ pub marks-last : (marks xs : List ℕ) → MarksTo marks xs (length xs) → (i :
 marks-last marks xs h i = h i ∙ repeated-all xs i
 
 -- the keys of some records, taken and sorted
-pub chunk-keys : (xs keys sorted : List ℕ) (s n : ℕ) → KeysTaken (drop s xs) s n keys → SameKeys sorted keys n → ChunkKeys xs s n sorted
-chunk-keys xs keys sorted s n t m =
-    let key : (p : ℕ) → p < n → get_or keys p 0 ≡ key_of (get_or xs (s + p) 0) (s + p) = λ p h.
+pub chunk-keys : (xs keys sorted : List ℕ) (s : ℕ) → KeysTaken (drop s xs) s (length keys) keys → IsPermutation keys sorted → ChunkKeys xs s sorted
+chunk-keys xs keys sorted s t m =
+    let l : length sorted ≡ length keys = length_permutation keys sorted m in
+    let key : (p : ℕ) → p < length keys → get_or keys p 0 ≡ key_of (get_or xs (s + p) 0) (s + p) = λ p h.
     t p h ∙ ap (λ (x : ℕ). key_of x (s + p)) (get_or-drop s xs p 0) in
     record {
       there = λ p h.
-          let k = m.there p h in
+          let k = key-moved sorted keys (IsPermutation-sym keys sorted m) p h in
           let w = k.within in
           record { index = s + k.place; from = omega arith; to = omega arith; is = k.same ∙ key k.place w };
       back = λ j a b.
           let p = j - s in
           let e : s + p ≡ j = omega arith in
-          let k = m.back p (omega arith) in
+          let k = key-moved keys sorted m p (omega arith) in
           record {
             place = k.place;
             within = k.within;

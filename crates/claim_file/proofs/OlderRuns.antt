@@ -18,8 +18,8 @@ use Rattle.claim_months.specs.declared.Claim.{Claim}
 use Rattle.claim_months.specs.Claim.{benefit_sound, weight, claim_check}
 use Rattle.rates.specs.Rates.{cells, length_sound, rate_check}
 use Rattle.study.specs.declared.Study.{Study}
-use Rattle.study.specs.declared.Answer.{Answer}
-use Rattle.claim_file.specs.declared.FileRun.{FileRun}
+use Rattle.study.specs.Answers.{Answer}
+use Rattle.claim_file.specs.Runs.{FileRun}
 use Rattle.claim_file.specs.Bytes.{byte_at, two_at, zero_from}
 use Rattle.claim_file.specs.Record.{claim_from, record_padded}
 use Rattle.claim_file.specs.Block.{claim_count, block_claim, claims_padded, window_block, claim_block, block_sound}

@@ -14,12 +14,12 @@ use Rattle.basics.specs.Pick.{pick}
 use Rattle.basics.specs.Checks.{refuse_block}
 use Rattle.basics.proofs.Tests.{by, tests, and_right}
 use Rattle.claim_months.specs.declared.Claim.{Claim}
-use Rattle.claim_file.specs.declared.BlockRead.{BlockRead}
-use Rattle.claim_file.specs.declared.MaybeDates.TheVariants.{Known}
+use Rattle.claim_file.specs.BlockAnswers.{BlockRead}
 use Rattle.claim_file.specs.Bytes.{date_from}
 use Rattle.claim_file.specs.Block.{claim_count, block_claim, window_block, claim_block}
 use Rattle.claim_file.specs.BlockAnswers.{no_claim, claims_in, read_of, window_of}
 use Rattle.claim_file.proofs.BlockTests.{claim-block}
+use Rattle.std.specs.Prelude.{Ok}
 
 -- what stands in place k when the first n claims have been read
 abbrev pub placed : List ℕ → ℕ → ℕ → Claim
@@ -111,6 +111,6 @@ read_count due bytes =
     (λ e. (claim-block due bytes (and_right (leb 1 due) (claim_block due bytes) e)).count_so) (λ e. omega arith)
 
 pub window-known : (bytes : List ℕ) → window_block bytes ≡ true
-    → Known (record { first = date_from bytes 16; last = date_from bytes 20 }) ≡ window_of bytes
+    → Ok (record { first = date_from bytes 16; last = date_from bytes 20 }) ≡ window_of bytes
 unfolding window_of
 window-known bytes e = rw e

@@ -1,6 +1,6 @@
 -- Records by their fields and as the tests of their calls come out, and the definitions of blocks step by step as the code's loops go.
 -- Assumes nothing.
-use Prim.Native.Nat.{ℕ, suc, ◌+◌, ◌-◌, ◌*◌, ◌<◌}
+use Prim.Native.Nat.{ℕ, zero, suc, ◌+◌, ◌-◌, ◌*◌, ◌<◌}
 use mathlib.Core.Path.{◌≡◌, refl, sym, ap, ◌∙◌}
 use mathlib.Core.Bool.{Bool, true, false, ◌&&◌, and-true, and-false, and_assoc}
 use mathlib.Core.List.{List}
@@ -10,13 +10,14 @@ use lib.Seq.{sets}
 use lib.Dec.{eqb}
 use lib.Bits.{bit_or, or_add_and, and_le_l, and_le_r}
 use borrow.Author.Tests.{eq-eqb, ne_eqb, eqb-false}
+use Rattle.std.specs.List.{range_with_len, list_all}
 use Rattle.basics.proofs.Tests.{by, tests}
 use Rattle.claim_months.specs.declared.Claim.{Claim}
 use Rattle.claim_file.specs.Bytes.{byte_at, zero_from}
-use Rattle.claim_file.specs.declared.MaybeClaim.TheVariants.{Found, NoRecord}
 use Rattle.claim_file.specs.Record.{claim_from, claim_bytes, record_padded}
 use Rattle.claim_file.specs.BlockAnswers.{has_record, record_in, record_after}
 use Rattle.claim_file.specs.Block.{claims_padded}
+use Rattle.std.specs.Prelude.{None, Some}
 
 pub same-claim :
     (c d : Claim)
@@ -46,15 +47,15 @@ same-claim c d n a b t m s k l w =
 
 -- reading and writing a record, as the tests come out
 module _ (bytes : List ℕ) (i : ℕ) where
-  pub no_room : has_record i (length bytes) ≡ false → NoRecord ≡ record_in bytes i
+  pub no_room : has_record i (length bytes) ≡ false → None ≡ record_in bytes i
   unfolding record_in
   no_room e = rw e
 
-  pub not-padded : record_padded bytes i ≡ false → NoRecord ≡ record_in bytes i
+  pub not-padded : record_padded bytes i ≡ false → None ≡ record_in bytes i
   unfolding record_in
   not-padded e = rw (e, and-false)
 
-  pub record-found : has_record i (length bytes) ≡ true → record_padded bytes i ≡ true → Found (claim_from bytes i) ≡ record_in bytes i
+  pub record-found : has_record i (length bytes) ≡ true → record_padded bytes i ≡ true → Some (claim_from bytes i) ≡ record_in bytes i
   unfolding record_in
   record-found e p = rw (e, p)
 
@@ -93,15 +94,22 @@ zero-step bytes from count i j all h k =
     ∙ sym (and_assoc (eqb all 0) (eqb (byte_at bytes j) 0) rest)
     ∙ ap (λ (t : Bool). t && rest) (or-zero all (byte_at bytes j))
 
--- the padding of claims, from the last one on: a padded claim leaves the rest to decide, another refuses
-padded-step : (bytes : List ℕ) (n : ℕ) → 0 < n
-    → claims_padded bytes n ≡ (claims_padded bytes (n - 1) && record_padded bytes (16 + 32 * (n - 1)))
+-- the claims of a block padded one after another
+padded_more : (bytes : List ℕ) (k n : ℕ)
+    → list_all (λ i. record_padded bytes (16 + 32 * i)) (range_with_len k (suc n))
+    ≡ (list_all (λ i. record_padded bytes (16 + 32 * i)) (range_with_len k n) && record_padded bytes (16 + 32 * (k + n)))
+padded_more bytes k zero = let e : k + 0 ≡ k = omega arith in rw (e, and-true (record_padded bytes (16 + 32 * k)))
+padded_more bytes k (suc n) =
+    let here = record_padded bytes (16 + 32 * k) in
+    let e : k + 1 + n ≡ k + suc n = omega arith in
+    ap (λ (t : Bool). here && t) (padded_more bytes (k + 1) n ∙ rw e)
+    ∙ sym (and_assoc here (list_all (λ i. record_padded bytes (16 + 32 * i)) (range_with_len (k + 1) n)) (record_padded bytes (16 + 32 * (k + suc n))))
+
+pub padded-all : (bytes : List ℕ) (n : ℕ) → list_all (λ i. record_padded bytes (16 + 32 * i)) (range_with_len 0 n) ≡ claims_padded bytes n
 unfolding claims_padded
-padded-step bytes n h = let e : n ≡ suc (n - 1) = omega arith in ap (claims_padded bytes) e
-
-pub padded-on : (bytes : List ℕ) (n : ℕ) → 0 < n → record_padded bytes (16 + 32 * (n - 1)) ≡ true
-    → claims_padded bytes n ≡ claims_padded bytes (n - 1)
-padded-on bytes n h e = padded-step bytes n h ∙ ap (λ (t : Bool). claims_padded bytes (n - 1) && t) e ∙ and-true (claims_padded bytes (n - 1))
-
-pub padded-off : (bytes : List ℕ) (n : ℕ) → 0 < n → record_padded bytes (16 + 32 * (n - 1)) ≡ false → claims_padded bytes n ≡ false
-padded-off bytes n h e = padded-step bytes n h ∙ ap (λ (t : Bool). claims_padded bytes (n - 1) && t) e ∙ and-false (claims_padded bytes (n - 1))
+padded-all bytes zero = refl
+padded-all bytes (suc n) =
+    let e : 0 + n ≡ n = omega arith in
+    padded_more bytes 0 n
+    ∙ ap (λ (k : ℕ). list_all (λ i. record_padded bytes (16 + 32 * i)) (range_with_len 0 n) && record_padded bytes (16 + 32 * k)) e
+    ∙ ap (λ (t : Bool). t && record_padded bytes (16 + 32 * n)) (padded-all bytes n)

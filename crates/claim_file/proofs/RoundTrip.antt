@@ -18,9 +18,8 @@ use Rattle.basics.proofs.Tables.{list-table}
 use Rattle.calendar.specs.declared.Date.{Date}
 use Rattle.claim_months.specs.declared.Claim.{Claim}
 use Rattle.claim_file.specs.declared.Block.{Block}
-use Rattle.claim_file.specs.declared.BlockRead.{BlockRead}
+use Rattle.claim_file.specs.BlockAnswers.{BlockRead}
 use Rattle.claim_file.specs.declared.WindowDates.{WindowDates}
-use Rattle.claim_file.specs.declared.MaybeDates.TheVariants.{Known, Refused}
 use Rattle.claim_file.specs.Bytes.{byte_at, two_at, date_from}
 use Rattle.claim_file.specs.Block.{block_claim, claim_count, window_block, claim_block, block_sound, window_bytes, bytes_of_block}
 use Rattle.claim_file.specs.BlockAnswers.{no_claim, claims_in, block_check, read_of, window_of, write_sound, write_check, bytes_after, window_after}
@@ -30,6 +29,7 @@ use Rattle.claim_file.proofs.BlockTests.{framed-number, claims-are, claim-block,
 use Rattle.claim_file.proofs.Reading.{placed, length-in, at_place, read_known, read-refused, window-known}
 use Rattle.claim_file.proofs.WrittenBlocks.{write-is, write_done, window-done}
 use Rattle.claim_file.proofs.BlockTrips.{written_count, written-sound, written-claim, window-sound, window-first, window-last, rewritten, window-rewritten, framed-changed, changed-refused}
+use Rattle.std.specs.Prelude.{Err, Ok}
 
 -- the claims in fifteen places, and the first n of them
 placed-so : (bytes : List ℕ) (cs : List Claim) (k : ℕ) → claim_count bytes ≡ length cs → (k < length cs → block_claim bytes k ≡ get_or cs k no_claim)
@@ -63,12 +63,12 @@ read-passed number bytes h =
     (λ _ _. refl) (λ _ z. absurd (omega arith)) h in
     (leb-true 1 number (and_left (leb 1 number) (claim_block number bytes) t), and_right (leb 1 number) (claim_block number bytes) t)
 
-window-passed : (w : WindowDates) (bytes : List ℕ) → window_of bytes ≡ Known w
+window-passed : (w : WindowDates) (bytes : List ℕ) → window_of bytes ≡ Ok w
     → (window_block bytes ≡ true) × (w ≡ record { first = date_from bytes 16; last = date_from bytes 20 })
 unfolding window_of
 window-passed w bytes =
     by (window_block bytes)
-    (λ t. pick t (Known (record { first = date_from bytes 16; last = date_from bytes 20 })) (Refused refuse_block) ≡ Known w
+    (λ t. pick t (Ok (record { first = date_from bytes 16; last = date_from bytes 20 })) (Err refuse_block) ≡ Ok w
     → (t ≡ true) × (w ≡ record { first = date_from bytes 16; last = date_from bytes 20 }))
     (λ _ e. (refl, cc))
     (λ _ e. let z : ◌≡◌ {A = ℕ} 0 1 = cc in absurd (omega arith))
@@ -115,13 +115,13 @@ read_write number bytes old small h l =
     subst (λ (r : BlockRead). (write_check number r.block.count (length old) ≡ 0) × (bytes_after number r.block old ≡ bytes)) e (sym d.0, sym d.1)
 
 write_read_window : (b e : Date) (old : List ℕ) → DateFits b → DateFits e → length old ≡ 512
-    → window_of (window_after b e old) ≡ Known (record { first = b; last = e })
+    → window_of (window_after b e old) ≡ Ok (record { first = b; last = e })
 write_read_window b e old f g l =
     ap window_of (sym (window-done b e old (window_bytes b e) l refl).1)
     ∙ sym (window-known (window_bytes b e) (window-sound b e))
-    ∙ (λ i. Known (record { first = window-first b e f i; last = window-last b e g i }))
+    ∙ (λ i. Ok (record { first = window-first b e f i; last = window-last b e g i }))
 
-read_write_window : (w : WindowDates) (bytes old : List ℕ) → AreBytes bytes → window_of bytes ≡ Known w → length old ≡ 512
+read_write_window : (w : WindowDates) (bytes old : List ℕ) → AreBytes bytes → window_of bytes ≡ Ok w → length old ≡ 512
     → window_after w.first w.last old ≡ bytes
 unfolding byte_at
 read_write_window w bytes old small h l =
@@ -143,8 +143,8 @@ changed_read due bytes i v small h place new other =
     let c = claims-are due (set bytes i v) (framed-changed due bytes i v place (small i) new other f) refl refl refl in
     sym (ap (λ (r : BlockRead). r.refused) (read-refused due (set bytes i v) c))
 
-changed_window : (w : WindowDates) (bytes : List ℕ) (i v : ℕ) → AreBytes bytes → window_of bytes ≡ Known w → i < 512 → v < 256
-    → (v ≡ get_or bytes i 0 → ⊥) → window_of (set bytes i v) ≡ Refused refuse_block
+changed_window : (w : WindowDates) (bytes : List ℕ) (i v : ℕ) → AreBytes bytes → window_of bytes ≡ Ok w → i < 512 → v < 256
+    → (v ≡ get_or bytes i 0 → ⊥) → window_of (set bytes i v) ≡ Err refuse_block
 unfolding byte_at window_of
 changed_window w bytes i v small h place new other =
     let f = (window-block bytes (window-passed w bytes h).0).framed-so in

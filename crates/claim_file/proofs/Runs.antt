@@ -13,9 +13,9 @@ use borrow.Author.Tests.{eq-eqb, ne_eqb, lt-ltb, eqb-true}
 use Rattle.basics.specs.Pick.{pick}
 use Rattle.basics.proofs.Tests.{by, tests}
 use Rattle.study.specs.declared.Study.{Study}
-use Rattle.study.specs.declared.Answer.{Answer}
+use Rattle.study.specs.Answers.{Answer}
 use Rattle.study.specs.Study.{opened}
-use Rattle.claim_file.specs.declared.FileRun.{FileRun}
+use Rattle.claim_file.specs.Runs.{FileRun}
 use Rattle.claim_file.specs.Bytes.{byte_at, two_at, date_from}
 use Rattle.claim_file.specs.Block.{block_claim, claim_count, window_block, claim_block, block_sound}
 use Rattle.claim_file.specs.Run.{Adding, begun, going_on, stops, claims_from, block_fed, blocks_fed, part_fed, fed}

@@ -11,9 +11,9 @@ use lib.Seq.{take_at}
 use lib.Dec.{eqb}
 use borrow.Author.Tests.{eqb-true, eq-eqb, ne_eqb, le-leb}
 use Rattle.basics.proofs.Tests.{tests, by}
-use Rattle.study.specs.declared.Answer.{Answer}
+use Rattle.study.specs.Answers.{Answer}
 use Rattle.study.specs.Study.{opened}
-use Rattle.claim_file.specs.declared.CorrectedRun.{CorrectedRun}
+use Rattle.claim_file.specs.Runs.{CorrectedRun}
 use Rattle.claim_file.specs.Bytes.{date_from}
 use Rattle.claim_file.specs.Run.{Adding, file_run_with}
 use Rattle.claim_file.specs.RoundTrip.{AreBytes}

@@ -15,7 +15,7 @@ use Rattle.study.proofs.SumOver.{All}
 use Rattle.study.proofs.Capacity.{Accepted}
 use Rattle.study.proofs.Built.{number_after}
 use Rattle.claim_file.specs.declared.WindowDates.{WindowDates}
-use Rattle.claim_file.specs.declared.FileRun.{FileRun}
+use Rattle.claim_file.specs.Runs.{FileRun}
 use Rattle.claim_file.specs.Block.{block_claim, claim_count, block_sound}
 use Rattle.claim_file.specs.Files.{run_of, claims_of_block, claims_of_blocks, file_claims, Accepts}
 use Rattle.claim_file.proofs.BlockTrips.{length-read}

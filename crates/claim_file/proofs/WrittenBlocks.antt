@@ -2,11 +2,11 @@
 -- Assumes nothing.
 use Prim.Native.Nat.{ℕ, ◌+◌, ◌-◌, ◌*◌, ◌/◌, ◌%◌, ◌≤◌}
 use mathlib.Core.Path.{◌≡◌, refl, sym, ap, ◌∙◌}
-use mathlib.Core.Bool.{Bool, true, false, ◌&&◌}
+use mathlib.Core.Bool.{Bool, true, false, ◌&&◌, and-eq-true_iff}
 use mathlib.Core.List.{List, ◌∷◌, ◌++◌, append_assoc}
 use native.Mathlib.Omega.{arith}
 use lib.Dec.{leb, eqb}
-use borrow.Author.Tests.{eq-eqb, ne_eqb}
+use borrow.Author.Tests.{le-leb, leb-true, eq-eqb, ne_eqb, eqb-true}
 use lib.ListN.{length, take, drop, length-append, get_or-append}
 use lib.Seq.{sets, sets-eq}
 use Rattle.basics.specs.Pick.{pick}
@@ -18,6 +18,7 @@ use Rattle.claim_file.specs.Bytes.{byte_at, two, date_bytes, zeros}
 use Rattle.claim_file.specs.Record.{all_claim_bytes}
 use Rattle.claim_file.specs.Block.{check_of, sealed, window_bytes, bytes_of_block}
 use Rattle.claim_file.proofs.Changed.{check-sum-cong}
+use Rattle.basics.proofs.Tests.{by}
 use Rattle.basics.proofs.Stores.{run}
 use Rattle.claim_file.proofs.ByteStores.{sets-all, length-zeros, length-all}
 
@@ -97,6 +98,16 @@ module _ (number : ℕ) (block : Block) (old : List ℕ) where
       → write_sound number block.count (length old) ≡ (n && u && c && l)
   unfolding write_sound
   write-is n u c l = λ i. n i && u i && c i && l i
+
+  pub written-so : 1 ≤ number → number ≤ 65535 → block.count ≤ 15 → length old ≡ 512 → write_sound number block.count (length old) ≡ true
+  written-so a b c d = write-is (le-leb _ _ a) (le-leb _ _ b) (le-leb _ _ c) (eq-eqb _ _ d)
+
+  pub not-written : (1 ≤ number → number ≤ 65535 → block.count ≤ 15 → length old ≡ 512 → ⊥) → write_sound number block.count (length old) ≡ false
+  unfolding write_sound
+  not-written h =
+      by (write_sound number block.count (length old)) (λ t. t ≡ false)
+      (λ e. let t = simp and-eq-true_iff at e in absurd (h (leb-true _ _ t.0.0.0) (leb-true _ _ t.0.0.1) (leb-true _ _ t.0.1) (eqb-true _ _ t.1)))
+      (λ _. refl)
 
   abbrev pub Answered : ℕ → List ℕ → Type 0
   Answered r new = (r ≡ write_check number block.count (length old)) × (new ≡ bytes_after number block old)

@@ -1,5 +1,5 @@
 -- What the calls on records and blocks answer, on every input.
-use Rattle.std.specs.Prelude.{ℕ, zero, suc, ◌+◌, Bool, ◌&&◌, List, [], ◌∷◌, length, take, leb, eqb}
+use Rattle.std.specs.Prelude.{ℕ, zero, suc, ◌+◌, Bool, ◌&&◌, List, [], ◌∷◌, length, take, leb, eqb, Err, None, Ok, Option, Result, Some}
 use Rattle.std.proofs.lemmas.List.Edits.{sets}
 use Rattle.basics.specs.Limits.{block_bytes}
 use Rattle.calendar.specs.declared.Date.{Date}
@@ -7,22 +7,20 @@ use Rattle.basics.specs.Pick.{pick}
 use Rattle.basics.specs.Checks.{check, refuse_block}
 use Rattle.claim_months.specs.declared.Claim.{Claim}
 use Rattle.claim_file.specs.declared.Block.{Block}
-use Rattle.claim_file.specs.declared.BlockRead.{BlockRead}
-use Rattle.claim_file.specs.declared.MaybeClaim.{MaybeClaim}
-use Rattle.claim_file.specs.declared.MaybeClaim.TheVariants.{Found, NoRecord}
-use Rattle.claim_file.specs.declared.MaybeDates.{MaybeDates}
-use Rattle.claim_file.specs.declared.MaybeDates.TheVariants.{Known, Refused}
+use Rattle.basics.specs.declared.refusal.Refusal.{Refusal}
+use Rattle.basics.specs.Refused.{number_of}
 use Rattle.claim_file.specs.Bytes.{date_from}
 use Rattle.claim_file.specs.Record.{claim_from, claim_bytes, record_padded}
 use Rattle.claim_file.specs.Block.{block_claim, claim_count, window_block, claim_block, block_sound, window_bytes, bytes_of_block}
+use Rattle.claim_file.specs.declared.WindowDates.{WindowDates}
 
 -- a record at a byte: the list has its 32 bytes
 abbrev pub has_record : ℕ → ℕ → Bool
 has_record i room = leb (i + 32) room
 
 -- reading a record: the claim, unless the list ends before it or a byte past its fields is not zero
-unfoldable pub record_in : List ℕ → ℕ → MaybeClaim
-record_in bytes i = pick (has_record i (length bytes) && record_padded bytes i) (Found (claim_from bytes i)) NoRecord
+unfoldable pub record_in : List ℕ → ℕ → Option Claim
+record_in bytes i = pick (has_record i (length bytes) && record_padded bytes i) (Some (claim_from bytes i)) None
 
 -- the lent bytes after writing one; without the room they are left
 unfoldable pub record_after : Claim → ℕ → List ℕ → List ℕ
@@ -44,6 +42,11 @@ unfoldable pub claims_in : List ℕ → ℕ → ℕ → List Claim
 claims_in bytes k zero = []
 claims_in bytes k (suc n) = pick (leb (suc k) (claim_count bytes)) (block_claim bytes k) no_claim ∷ claims_in bytes (suc k) n
 
+-- a claim block read, with the number refused or 0
+pub record BlockRead : Type 0 where
+  pub refused : ℕ
+  pub block : Block
+
 -- reading a claim block at the number due, which is not 0: its count and claims; a refusal gives no claims
 unfoldable pub read_of : ℕ → List ℕ → BlockRead
 read_of due bytes =
@@ -51,9 +54,14 @@ read_of due bytes =
     (record { refused = 0; block = record { count = claim_count bytes; claims = claims_in bytes 0 15 } })
     (record { refused = refuse_block; block = record { count = 0; claims = claims_in [] 0 15 } })
 
+-- the read that the code gives
+abbrev pub read_by_number : Result Block Refusal → BlockRead
+read_by_number (Ok b) = record { refused = 0; block = b }
+read_by_number (Err r) = record { refused = number_of r; block = record { count = 0; claims = claims_in [] 0 15 } }
+
 -- reading block 0: the window's dates
-unfoldable pub window_of : List ℕ → MaybeDates
-window_of bytes = pick (window_block bytes) (Known (record { first = date_from bytes 16; last = date_from bytes 20 })) (Refused refuse_block)
+unfoldable pub window_of : List ℕ → Result WindowDates ℕ
+window_of bytes = pick (window_block bytes) (Ok (record { first = date_from bytes 16; last = date_from bytes 20 })) (Err refuse_block)
 
 -- writing: more than 15 claims, claims as block 0, a number that two bytes don't hold, or a list that has not 512 bytes is refused 11
 unfoldable pub write_sound : ℕ → ℕ → ℕ → Bool

@@ -9,8 +9,8 @@ use Rattle.study.specs.declared.Study.{Study}
 use Rattle.study.specs.Sums.{plus}
 use Rattle.study.specs.Study.{study_of, fresh, first_day_alone, opened}
 use Rattle.claim_file.specs.declared.WindowDates.{WindowDates}
-use Rattle.claim_file.specs.declared.FileRun.{FileRun}
-use Rattle.claim_file.specs.declared.CorrectedRun.{CorrectedRun}
+use Rattle.claim_file.specs.Runs.{FileRun}
+use Rattle.claim_file.specs.Runs.{CorrectedRun}
 use Rattle.claim_file.specs.Bytes.{date_from}
 use Rattle.claim_file.specs.Block.{block_claim, claim_count, block_sound, window_bytes, bytes_of_block}
 use Rattle.claim_file.specs.BlockAnswers.{no_claim}

@@ -9,7 +9,7 @@ use Rattle.claim_months.specs.Windows.{between, Parts, total, EveryPart}
 use Rattle.study.specs.Sums.{plus}
 use Rattle.study.specs.Study.{study_of, opened}
 use Rattle.claim_file.specs.declared.WindowDates.{WindowDates}
-use Rattle.claim_file.specs.declared.FileRun.{FileRun}
+use Rattle.claim_file.specs.Runs.{FileRun}
 use Rattle.claim_file.specs.Block.{window_bytes, block_claim, claim_count}
 use Rattle.claim_file.specs.Run.{file_run}
 

@@ -3,6 +3,7 @@ pub mod Bytes
 pub mod Record
 pub mod Block
 pub mod BlockAnswers
+pub mod Runs
 pub mod Run
 pub mod PreparedRuns
 pub mod LentRuns

@@ -5,7 +5,7 @@ use Rattle.basics.specs.Pick.{pick}
 use Rattle.basics.specs.Checks.{refuse_block}
 use Rattle.claim_months.specs.declared.Claim.{Claim}
 use Rattle.study.specs.Study.{fresh, first_day_alone}
-use Rattle.claim_file.specs.declared.CorrectedRun.{CorrectedRun}
+use Rattle.claim_file.specs.Runs.{CorrectedRun}
 use Rattle.claim_file.specs.Bytes.{byte_at, four_at}
 use Rattle.claim_file.specs.Corrections.{PlacedClaim}
 
@@ -66,46 +66,33 @@ key_of x i = 65536 * x + i
 abbrev pub KeysTaken : List ℕ → ℕ → ℕ → List ℕ → Type 0
 KeysTaken xs i n keys = (k : ℕ) → k < n → get_or keys k 0 ≡ key_of (get_or xs k 0) (i + k)
 
--- the first n keys are sorted; a key is among the first n; the first n of two lists are the same keys in some order
-abbrev pub Sorted : List ℕ → ℕ → Type 0
-Sorted keys n = (p q : ℕ) → p ≤ q → q < n → get_or keys p 0 ≤ get_or keys q 0
-
-pub record KeyAt (keys : List ℕ) (n x : ℕ) : Type 0 where
+-- a key is among some
+pub record KeyAt (keys : List ℕ) (x : ℕ) : Type 0 where
   pub place : ℕ
-  pub within : place < n
+  pub within : place < length keys
   pub same : x ≡ get_or keys place 0
 
-pub record SameKeys (keys other : List ℕ) (n : ℕ) : Type 0 where
-  pub there : (p : ℕ) → p < n → KeyAt other n (get_or keys p 0)
-  pub back : (p : ℕ) → p < n → KeyAt keys n (get_or other p 0)
-
--- a key is that of a number with an index from i up to e; the first n keys are, in some order, those of the n numbers from index i on
+-- a key is that of a number with an index from i up to e; some keys are, in some order, those of as many numbers from index i on
 pub record IndexOf (xs : List ℕ) (i e key : ℕ) : Type 0 where
   pub index : ℕ
   pub from : i ≤ index
   pub to : index < e
   pub is : key ≡ key_of (get_or xs index 0) index
 
-pub record ChunkKeys (xs : List ℕ) (i n : ℕ) (keys : List ℕ) : Type 0 where
-  pub there : (p : ℕ) → p < n → IndexOf xs i (i + n) (get_or keys p 0)
-  pub back : (j : ℕ) → i ≤ j → j < i + n → KeyAt keys n (key_of (get_or xs j 0) j)
+pub record ChunkKeys (xs : List ℕ) (i : ℕ) (keys : List ℕ) : Type 0 where
+  pub there : (p : ℕ) → p < length keys → IndexOf xs i (i + length keys) (get_or keys p 0)
+  pub back : (j : ℕ) → i ≤ j → j < i + length keys → KeyAt keys (key_of (get_or xs j 0) j)
 
--- place r is that of the first of n keys above a key, or n
-pub record FirstAbove (keys : List ℕ) (n key r : ℕ) : Type 0 where
-  pub within : r ≤ n
-  pub below : (k : ℕ) → k < r → get_or keys k 0 ≤ key
-  pub above : (k : ℕ) → r ≤ k → k < n → key < get_or keys k 0
-
--- one of n keys is that of a later record with the claim number of a key, and a test that says whether there is one
-pub record LaterKey (keys : List ℕ) (n key : ℕ) : Type 0 where
+-- one of some keys is that of a later record with the claim number of a key, and a test that says whether there is one
+pub record LaterKey (keys : List ℕ) (key : ℕ) : Type 0 where
   pub place : ℕ
-  pub within : place < n
+  pub within : place < length keys
   pub later : key < get_or keys place 0
   pub same : get_or keys place 0 / 65536 ≡ key / 65536
 
-pub record HasLater (keys : List ℕ) (n key : ℕ) (r : Bool) : Type 0 where
-  pub found : r ≡ true → LaterKey keys n key
-  pub missed : LaterKey keys n key → r ≡ true
+pub record HasLater (keys : List ℕ) (key : ℕ) (r : Bool) : Type 0 where
+  pub found : r ≡ true → LaterKey keys key
+  pub missed : LaterKey keys key → r ≡ true
 
 -- the record at a block's place, or none where it is superseded
 unfoldable pub unless_superseded : Bool → Claim → ℕ → ℕ → List PlacedClaim

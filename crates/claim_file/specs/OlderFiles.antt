@@ -9,9 +9,9 @@ use Rattle.claim_months.specs.declared.Claim.{Claim}
 use Rattle.claim_months.specs.Claim.{dates_sound, status_sound, sequence_sound, ep_sound, weight, claim_check}
 use Rattle.rates.specs.Rates.{rates_sound, rate_check}
 use Rattle.study.specs.declared.Study.{Study}
-use Rattle.study.specs.declared.Answer.{Answer}
+use Rattle.study.specs.Answers.{Answer}
 use Rattle.study.specs.Study.{opened}
-use Rattle.claim_file.specs.declared.FileRun.{FileRun}
+use Rattle.claim_file.specs.Runs.{FileRun}
 use Rattle.claim_file.specs.Bytes.{byte_at, two_at, date_from, zero_from}
 use Rattle.claim_file.specs.Record.{claim_with}
 use Rattle.claim_file.specs.Block.{claim_count, block_claim, framed, window_block, block_sound}

@@ -5,7 +5,7 @@ use Rattle.rates.specs.declared.Kind.{Kind}
 use Rattle.rates.specs.declared.Kind.TheVariants.{Plain, Prepared}
 use Rattle.rates.specs.Prepared.{prepared_of}
 use Rattle.study.specs.PreparedAdding.{added_with}
-use Rattle.claim_file.specs.declared.FileRun.{FileRun}
+use Rattle.claim_file.specs.Runs.{FileRun}
 use Rattle.claim_file.specs.Run.{Adding, adding, fed, file_run_with, file_run}
 use Rattle.claim_file.specs.Corrections.{corrected_run_with, corrected_run}
 

@@ -1,9 +1,10 @@
 -- What the private functions of this layer answer: the steps of a run whose sums are lent, and the columns of check 11's sum.
-use Rattle.std.specs.Prelude.{ℕ, zero, suc, ◌+◌, ◌*◌, List, get_or, eqb}
+use Rattle.std.specs.Prelude.{ℕ, zero, suc, ◌+◌, ◌*◌, List, get_or, eqb, Some, None}
+use Rattle.basics.specs.declared.refusal.Refusal.{Refusal}
 use Rattle.basics.specs.Pick.{pick}
 use Rattle.basics.specs.Tables.{table}
 use Rattle.claim_file.specs.Bytes.{byte_at}
-use Rattle.claim_file.specs.declared.FileRun.{FileRun}
+use Rattle.claim_file.specs.Runs.{FileRun}
 use Rattle.claim_file.specs.declared.LentRun.{LentRun}
 use Rattle.claim_file.specs.Run.{begun, stops}
 
@@ -16,12 +17,12 @@ block_begun r bytes =
     (stops r a.study a.refused 0)
 
 -- the run with some claims taken, refused at the block due, and after a block
-unfoldable pub lent_stops : LentRun → ℕ → ℕ → ℕ → LentRun
-lent_stops r taken number place =
-    record { window = r.window; taken = taken; due = r.due; refused = number; block = r.due; place = place }
+unfoldable pub lent_stops : LentRun → ℕ → Refusal → ℕ → LentRun
+lent_stops r taken refusal place =
+    record { window = r.window; taken = taken; due = r.due; stop = Some (record { refusal = refusal; block = r.due; place = place }) }
 
 unfoldable pub lent_goes_on : LentRun → ℕ → LentRun
-lent_goes_on r taken = record { window = r.window; taken = taken; due = r.due + 1; refused = 0; block = 0; place = 0 }
+lent_goes_on r taken = record { window = r.window; taken = taken; due = r.due + 1; stop = None }
 
 -- check 11's sum by columns: a row of 16 bytes, two rows added, and what the first n columns from a place on add, given of each column the sum of its
 -- bytes and the sum of each byte times its row from 0

@@ -1,6 +1,6 @@
 -- Round trips on the calls: what `write` and `write_window` leave, `read` and `read_window` give back; what these give, those write to the very
 -- bytes; and a block with one byte changed is refused. `crates/claim_file/proofs/RoundTrip.antt` proves it.
-use Rattle.std.specs.Prelude.{ℕ, ◌<◌, ◌≡◌, List, length, get_or, set, take}
+use Rattle.std.specs.Prelude.{ℕ, ◌<◌, ◌≡◌, List, length, get_or, set, take, Err, Ok}
 use Rattle.basics.specs.Limits.{block_bytes}
 use Rattle.basics.specs.Checks.{refuse_block}
 use Rattle.basics.specs.Tables.{table}
@@ -8,7 +8,6 @@ use Rattle.calendar.specs.declared.Date.{Date}
 use Rattle.claim_months.specs.declared.Claim.{Claim}
 use Rattle.claim_file.specs.declared.Block.{Block}
 use Rattle.claim_file.specs.declared.WindowDates.{WindowDates}
-use Rattle.claim_file.specs.declared.MaybeDates.TheVariants.{Known, Refused}
 use Rattle.claim_file.specs.BlockAnswers.{no_claim, block_check, read_of, window_of, write_check, bytes_after, window_after}
 
 -- fields that the code's widths hold
@@ -48,13 +47,13 @@ pub record RoundTrips : Type 0 where
       → (write_check number (read_of number bytes).block.count (length old) ≡ 0) × (bytes_after number (read_of number bytes).block old ≡ bytes)
   -- the same of block 0
   pub write_read_window : (b e : Date) (old : List ℕ) → DateFits b → DateFits e → length old ≡ block_bytes
-      → window_of (window_after b e old) ≡ Known (record { first = b; last = e })
-  pub read_write_window : (w : WindowDates) (bytes old : List ℕ) → AreBytes bytes → window_of bytes ≡ Known w → length old ≡ block_bytes
+      → window_of (window_after b e old) ≡ Ok (record { first = b; last = e })
+  pub read_write_window : (w : WindowDates) (bytes old : List ℕ) → AreBytes bytes → window_of bytes ≡ Ok w → length old ≡ block_bytes
       → window_after w.first w.last old ≡ bytes
   -- one changed byte is refused, by the check of either kind of block and by the call that reads it
   pub changed : (due : ℕ) (bytes : List ℕ) (i v : ℕ) → AreBytes bytes → block_check due bytes ≡ 0 → i < block_bytes → v < 256 → (v ≡ get_or bytes i 0 → ⊥)
       → block_check due (set bytes i v) ≡ refuse_block
   pub changed_read : (due : ℕ) (bytes : List ℕ) (i v : ℕ) → AreBytes bytes → (read_of due bytes).refused ≡ 0 → i < block_bytes → v < 256 → (v ≡ get_or bytes i 0 → ⊥)
       → (read_of due (set bytes i v)).refused ≡ refuse_block
-  pub changed_window : (w : WindowDates) (bytes : List ℕ) (i v : ℕ) → AreBytes bytes → window_of bytes ≡ Known w → i < block_bytes → v < 256 → (v ≡ get_or bytes i 0 → ⊥)
-      → window_of (set bytes i v) ≡ Refused refuse_block
+  pub changed_window : (w : WindowDates) (bytes : List ℕ) (i v : ℕ) → AreBytes bytes → window_of bytes ≡ Ok w → i < block_bytes → v < 256 → (v ≡ get_or bytes i 0 → ⊥)
+      → window_of (set bytes i v) ≡ Err refuse_block

@@ -5,9 +5,9 @@ use Rattle.basics.specs.Pick.{pick}
 use Rattle.basics.specs.Checks.{refuse_block}
 use Rattle.claim_months.specs.declared.Claim.{Claim}
 use Rattle.study.specs.declared.Study.{Study}
-use Rattle.study.specs.declared.Answer.{Answer}
+use Rattle.study.specs.Answers.{Answer}
 use Rattle.study.specs.Study.{fresh, first_day_alone, opened, added}
-use Rattle.claim_file.specs.declared.FileRun.{FileRun}
+use Rattle.claim_file.specs.Runs.{FileRun}
 use Rattle.claim_file.specs.Bytes.{date_from}
 use Rattle.claim_file.specs.Block.{block_claim, claim_count, block_sound}
 

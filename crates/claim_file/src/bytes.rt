@@ -1,4 +1,5 @@
 // Numbers, dates and zeros at a byte of a list, low byte first.
+// Kept: a list travels with a byte's place: a struct of both would be made anew for each field of a record. Each width has its own functions, since each is one call of std's for its type.
 ghost use Rattle.std.specs.Prelude.{◌≡◌, ◌+◌, ◌/◌, ◌%◌, ◌<◌, ◌≤◌, length, ◌++◌};
 ghost use Rattle.std.proofs.lemmas.List.Edits.{sets};
 ghost use Rattle.claim_file.specs.Bytes.{two_at, four_at, date_from, zero_from, two, date_bytes, zeros};
@@ -6,11 +7,12 @@ ghost use Rattle.claim_file.specs.Bytes.{two_at, four_at, date_from, zero_from, 
 use calendar::Date;
 
 // A number of two bytes, low byte first.
+#[tactic(auto, unfolding(crate::specs::Bytes::two_at, crate::specs::Bytes::byte_at))]
 pub(crate) fn two_at(bytes: &[u8], at: usize) -> u16
     requires { at + 1 < length bytes.now }
     ensures { result ≡ two_at bytes.now at }
 {
-    bytes[at] as u16 + 256 * bytes[at + 1] as u16
+    u16::from_le_bytes([bytes[at], bytes[at + 1]])
 }
 
 // A number of four bytes, low byte first.
@@ -18,7 +20,7 @@ pub(crate) fn four_at(bytes: &[u8], at: usize) -> u32
     requires { at + 3 < length bytes.now }
     ensures { result ≡ four_at bytes.now at }
 {
-    two_at(bytes, at) as u32 + 65536 * two_at(bytes, at + 2) as u32
+    u32::from_le_bytes([bytes[at], bytes[at + 1], bytes[at + 2], bytes[at + 3]])
 }
 
 // The date that stands at a byte.
@@ -39,8 +41,8 @@ pub(crate) fn all_zero(bytes: &[u8], from: usize, count: usize) -> bool
     ensures { result ≡ zero_from bytes.now from count }
 {
     let mut all = 0;
-    for i in 0..count {
-        all |= bytes[from + i];
+    for byte in &bytes[from..from + count] {
+        all |= *byte;
     }
     all == 0
 }
@@ -50,8 +52,7 @@ pub(crate) fn put_two(value: u16, at: usize, bytes: &mut [u8])
     requires { at + 2 ≤ length bytes.old }
     ensures { bytes.new ≡ sets bytes.old at (two value) }
 {
-    bytes[at] = (value % 256) as u8;
-    bytes[at + 1] = (value / 256) as u8;
+    bytes[at..at + 2].copy_from_slice(&value.to_le_bytes());
 }
 
 // Stores a number in four bytes, low byte first.
@@ -59,8 +60,7 @@ pub(crate) fn put_four(value: u32, at: usize, bytes: &mut [u8])
     requires { at + 4 ≤ length bytes.old }
     ensures { bytes.new ≡ sets bytes.old at (two (value % 65536) ++ two (value / 65536)) }
 {
-    put_two((value % 65536) as u16, at, bytes);
-    put_two((value / 65536) as u16, at + 2, bytes);
+    bytes[at..at + 4].copy_from_slice(&value.to_le_bytes());
 }
 
 // Stores a date's four bytes.
@@ -78,7 +78,5 @@ pub(crate) fn put_zeros(from: usize, count: usize, bytes: &mut [u8])
     requires { from + count ≤ length bytes.old }
     ensures { bytes.new ≡ sets bytes.old from (zeros count) }
 {
-    for i in 0..count {
-        bytes[from + i] = 0;
-    }
+    bytes[from..from + count].fill(0);
 }

@@ -1,10 +1,13 @@
 // The sum behind check 11 (document 01: Claim file) by columns, each half of a block in 16 rows of 16 bytes: 16 bits hold a column's numbers, so that
 // vector code adds eight columns at once.
+// Kept: all go by column, as the definitions do. `from_fn` could make the rows of two, and the sums would stay loops. So a block takes 403 instructions,
+// where one loop over the bytes took 1,294 (MEASURED.md).
 ghost use Rattle.std.specs.Prelude.{◌≡◌, true, ◌+◌, ◌≤◌, length};
-ghost use Rattle.basics.specs.Limits.{block_bytes};
 ghost use Rattle.basics.specs.Tables.{all_at_most};
 ghost use Rattle.claim_file.specs.Block.{check_sum};
 ghost use Rattle.claim_file.specs.Private.{row_at, plus_row, columns_sum};
+
+use basics::limits::BLOCK_BYTES;
 
 // A row: the 16 bytes from a place on.
 fn row_at(bytes: &[u8], at: usize) -> [u16; 16]
@@ -47,16 +50,13 @@ fn columns_sum(sums: &[u16; 16], by_row: &[u16; 16], at: usize) -> u32
 
 // The sum of 256 bytes from a place on, each times its place from 1. The last row comes first: a row before others moves them up by one, which adds
 // their sums once more.
-fn half_sum(bytes: &[u8], at: usize) -> u32
-    requires bytes_len { length bytes.now ≡ block_bytes }
+fn half_sum(bytes: &[u8; BLOCK_BYTES], at: usize) -> u32
     requires at_bound { at ≤ 256 }
     ensures { check_sum bytes.now at + result ≡ check_sum bytes.now (at + 256) }
 {
     let mut sums = [0; 16];
     let mut by_row = [0; 16];
-    let mut rows: usize = 16;
-    while rows > 0 {
-        rows -= 1;
+    for rows in (0..16).rev() {
         let row = row_at(bytes, at + 16 * rows);
         let next_by_row = plus_row(&by_row, &sums);
         let next_sums = plus_row(&sums, &row);
@@ -67,8 +67,7 @@ fn half_sum(bytes: &[u8], at: usize) -> u32
 }
 
 // The sum of the first 510 bytes, each times its place from 1: the check's own two bytes are taken off again.
-pub(crate) fn check_sum(bytes: &[u8]) -> u32
-    requires { length bytes.now ≡ block_bytes }
+pub(crate) fn check_sum(bytes: &[u8; BLOCK_BYTES]) -> u32
     ensures { result ≡ check_sum bytes.now 510 }
 {
     let last = 511 * bytes[510] as u32 + 512 * bytes[511] as u32;

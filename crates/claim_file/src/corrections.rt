@@ -2,16 +2,18 @@
 // later one corrects are added, in file order.
 ghost use Rattle.std.specs.Prelude.{◌≡◌, true, ◌/◌, ◌≤◌, length};
 ghost use Rattle.basics.specs.Limits.{block_bytes, most_records};
+ghost use Rattle.basics.specs.Refused.{number_of};
 ghost use Rattle.claim_file.specs.Corrections.{file_records, sound_blocks, sound_all, last_ones, records_added, corrected_run_with, corrected_run};
 ghost use Rattle.claim_file.specs.PreparedRuns.{adding_with};
+ghost use Rattle.claim_file.specs.Runs.{corrected_by_number};
 ghost use Rattle.claim_file.specs.Marks.{numbers_of, MarksSuperseded, unless_superseded, unsound_at};
 
 use crate::blocks::{claim_at, is_sound};
 use crate::bytes::date_at;
-use crate::superseded::{is_marked, mark_superseded, record_count};
-use crate::{CorrectedRun, FileRun};
+use crate::superseded::{Marks, is_marked, mark_superseded, record_count};
+use crate::{CorrectedRun, FileRun, Stop};
 use basics::limits::{BLOCK_BYTES, MOST_RECORDS};
-use basics::refusal;
+use basics::refusal::Refusal;
 use claim_months::Claim;
 use rates::Kind;
 use study::Study;
@@ -20,6 +22,7 @@ use study::Study;
 fn sound_blocks(file: &[u8]) -> u32
     ensures { result ≡ sound_blocks 0 file.now (length file.now / block_bytes) }
 {
+    // Kept: the count answered has 32 bits and a `for` over the blocks 64; that it fits is known of sound blocks, whose numbers have 16, and not of the file's length.
     let mut due: u32 = 0;
     while (due as usize) < file.len() / BLOCK_BYTES {
         let at = BLOCK_BYTES * due as usize;
@@ -31,18 +34,26 @@ fn sound_blocks(file: &[u8]) -> u32
     due
 }
 
-// A run refused at a block that isn't sound: no study is opened.
-fn unsound_at(block: u32) -> CorrectedRun
-    ensures { result ≡ unsound_at block }
+// A run with a study that was refused at a place.
+fn refused(study: Study, refusal: Refusal, block: u32, place: u8) -> CorrectedRun
+    ensures { corrected_by_number result ≡ record { study = study; refused = number_of refusal; block = block; place = place } }
 {
-    let start = FileRun::start();
-    let study = start.study;
+    let stop = Stop {
+        refusal,
+        block,
+        place,
+    };
     CorrectedRun {
         study,
-        refused: refusal::BLOCK,
-        block,
-        place: 0,
+        stop: Some(stop),
     }
+}
+
+// A run refused at a block that isn't sound: no study is opened.
+fn unsound_at(block: u32) -> CorrectedRun
+    ensures { corrected_by_number result ≡ unsound_at block }
+{
+    refused(FileRun::start().study, Refusal::Block, block, 0)
 }
 
 // One record of a block added to a study, unless a later one corrects it.
@@ -55,56 +66,37 @@ fn add_record(
     superseded: bool,
     study: Study,
 ) -> CorrectedRun
-    ensures { result ≡ records_added (adding_with kind table.now) study (unless_superseded superseded claim block place) }
+    ensures { corrected_by_number result ≡ records_added (adding_with kind table.now) study (unless_superseded superseded claim block place) }
 {
     if superseded {
-        return CorrectedRun {
-            study,
-            refused: 0,
-            block: 0,
-            place: 0,
-        };
+        return CorrectedRun { study, stop: None };
     }
     let answer = study.add_with(kind, table, claim);
-    let after = answer.study;
-    if answer.refused == 0 {
-        return CorrectedRun {
-            study: after,
-            refused: 0,
-            block: 0,
-            place: 0,
-        };
-    }
-    CorrectedRun {
-        study: after,
-        refused: answer.refused,
-        block,
-        place,
+    match answer.refused {
+        None => CorrectedRun {
+            study: answer.study,
+            stop: None,
+        },
+        Some(refusal) => refused(answer.study, refusal, block, place),
     }
 }
 
 // The records that are not marked, added to a study up to the first refusal.
-fn add_kept(kind: Kind, table: &[u32], file: &[u8], marks: &[u8], study: Study) -> CorrectedRun
+fn add_kept(kind: Kind, table: &[u32], file: &[u8], marks: &Marks, study: Study) -> CorrectedRun
     requires file_value { sound_all file.now ≡ true }
     requires file_len_bound { length (file_records file.now) ≤ most_records }
-    requires marks_len { length marks.now ≡ 7500 }
     requires marks_superseded { MarksSuperseded marks.now (numbers_of (file_records file.now)) }
-    ensures { result ≡ records_added (adding_with kind table.now) study (last_ones (file_records file.now)) }
+    ensures { corrected_by_number result ≡ records_added (adding_with kind table.now) study (last_ones (file_records file.now)) }
 {
-    let mut run = CorrectedRun {
-        study,
-        refused: 0,
-        block: 0,
-        place: 0,
-    };
+    let mut run = CorrectedRun { study, stop: None };
     let mut index = 0;
     let mut block: u32 = 1;
+    // Kept: the loops and the label of the file run; a block's number has 32 bits, as above.
     'file: while (block as usize) < file.len() / BLOCK_BYTES {
         let at = BLOCK_BYTES * block as usize;
         let bytes = &file[at..at + BLOCK_BYTES];
         let count = bytes[2];
-        let mut place = 0;
-        while place < count {
+        for place in 0..count {
             let so_far = run.study;
             run = add_record(
                 kind,
@@ -115,11 +107,10 @@ fn add_kept(kind: Kind, table: &[u32], file: &[u8], marks: &[u8], study: Study) 
                 is_marked(marks, index),
                 so_far,
             );
-            if run.refused != 0 {
+            if run.stop.is_some() {
                 break 'file;
             }
             index += 1;
-            place += 1;
         }
         block += 1;
     }
@@ -128,7 +119,7 @@ fn add_kept(kind: Kind, table: &[u32], file: &[u8], marks: &[u8], study: Study) 
 
 // The run of a whole file with corrections, with a table of either kind.
 pub fn run_corrected_with(kind: Kind, table: &[u32], file: &[u8]) -> CorrectedRun
-    ensures { result ≡ corrected_run_with (adding_with kind table.now) file.now }
+    ensures { corrected_by_number result ≡ corrected_run_with (adding_with kind table.now) file.now }
 {
     let sound = sound_blocks(file);
     if sound == 0 {
@@ -139,21 +130,11 @@ pub fn run_corrected_with(kind: Kind, table: &[u32], file: &[u8]) -> CorrectedRu
     }
     let answer = Study::open(date_at(file, 16), date_at(file, 20));
     let study = answer.study;
-    if answer.refused != 0 {
-        return CorrectedRun {
-            study,
-            refused: answer.refused,
-            block: 0,
-            place: 0,
-        };
+    if let Some(refusal) = answer.refused {
+        return refused(study, refusal, 0, 0);
     }
     if record_count(file) > MOST_RECORDS {
-        return CorrectedRun {
-            study,
-            refused: refusal::TOO_MANY_RECORDS,
-            block: 0,
-            place: 0,
-        };
+        return refused(study, Refusal::TooManyRecords, 0, 0);
     }
     let mut marks = [0; 7500];
     mark_superseded(file, &mut marks);
@@ -162,7 +143,7 @@ pub fn run_corrected_with(kind: Kind, table: &[u32], file: &[u8]) -> CorrectedRu
 
 // The same with plain rates.
 pub fn run_corrected(rates: &[u32], file: &[u8]) -> CorrectedRun
-    ensures { result ≡ corrected_run rates.now file.now }
+    ensures { corrected_by_number result ≡ corrected_run rates.now file.now }
 {
     run_corrected_with(Kind::Plain, rates, file)
 }

@@ -5,26 +5,19 @@ ghost use Rattle.claim_file.specs.Bytes.{date_bytes};
 ghost use Rattle.claim_file.specs.Record.{claim_from, claim_bytes, record_padded};
 ghost use Rattle.claim_file.specs.BlockAnswers.{no_claim, has_record, record_in, record_after};
 
-use crate::MaybeClaim;
 use crate::bytes::{all_zero, date_at, four_at, put_date, put_four, put_two, put_zeros, two_at};
-use calendar::Date;
-use claim_months::Claim;
+use claim_months::{Claim, NO_DATE};
 
 // A claim of zeros.
 pub fn no_claim() -> Claim
     ensures { result ≡ no_claim }
 {
-    let none = Date {
-        year: 0,
-        month: 0,
-        day: 0,
-    };
     Claim {
         number: 0,
-        disability: none,
-        bcd: none,
-        termination: none,
-        maximum: none,
+        disability: NO_DATE,
+        bcd: NO_DATE,
+        termination: NO_DATE,
+        maximum: NO_DATE,
         status: 0,
         code: 0,
         cell: 0,
@@ -51,6 +44,7 @@ pub(crate) fn claim_from(bytes: &[u8], at: usize) -> Claim
 }
 
 // Whether the bytes past the fields of a record are zero.
+#[tactic(auto, unfolding(crate::specs::Record::record_padded))]
 pub(crate) fn is_padded(bytes: &[u8], at: usize) -> bool
     requires { at + 32 ≤ length bytes.now }
     ensures { result ≡ record_padded bytes.now at }
@@ -62,26 +56,20 @@ pub(crate) fn is_padded(bytes: &[u8], at: usize) -> bool
 fn has_record(at: usize, room: usize) -> bool
     ensures { result ≡ has_record at room }
 {
-    if room < 32 {
-        return false;
-    }
-    if at > room - 32 {
-        return false;
-    }
-    true
+    room >= 32 && at <= room - 32
 }
 
 // The claim whose record starts at a byte, if the list has 32 bytes there, zero past the fields.
-pub fn read_record(bytes: &[u8], at: usize) -> MaybeClaim
+pub fn read_record(bytes: &[u8], at: usize) -> Option<Claim>
     ensures { result ≡ record_in bytes.now at }
 {
     if !has_record(at, bytes.len()) {
-        return MaybeClaim::NoRecord;
+        return None;
     }
     if !is_padded(bytes, at) {
-        return MaybeClaim::NoRecord;
+        return None;
     }
-    MaybeClaim::Found(claim_from(bytes, at))
+    Some(claim_from(bytes, at))
 }
 
 // Stores a claim's four dates.

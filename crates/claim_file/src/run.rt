@@ -1,19 +1,20 @@
 // The file run: blocks 0, 1, 2, .. in order, up to the first refusal.
-ghost use Rattle.std.specs.Prelude.{◌≡◌, List, ◌+◌, ◌-◌, ◌≤◌, ◌<◌, ℤ};
+ghost use Rattle.std.specs.Prelude.{◌≡◌, List, ◌+◌, ◌-◌, ◌≤◌, ◌<◌, ℤ, IsNone};
 ghost use Rattle.basics.specs.Limits.{block_bytes};
 ghost use Rattle.study.specs.Sums.{none};
 ghost use Rattle.claim_file.specs.Run.{adding, started, fed, ended, file_run_with, file_run};
 ghost use Rattle.claim_file.specs.PreparedRuns.{adding_with};
 ghost use Rattle.claim_file.specs.LentRuns.{run_with};
+ghost use Rattle.claim_file.specs.Runs.{run_by_number};
 ghost use Rattle.claim_file.specs.Private.{block_begun, lent_stops, lent_goes_on};
 
 use crate::blocks::{claim_at, is_sound};
 use crate::bytes::date_at;
-use crate::{FileRun, LentRun};
+use crate::{FileRun, LentRun, Stop};
 use basics::limits::BLOCK_BYTES;
-use basics::refusal;
+use basics::refusal::Refusal;
 use calendar::Day;
-use claim_months::{MaybeWindow, Window};
+use claim_months::Window;
 use rates::Kind;
 use study::Study;
 use study::adding::add_to;
@@ -24,14 +25,12 @@ fn block_end(at: usize, len: usize) -> usize
     requires { at ≤ len }
     ensures { result ≡ at + (block_bytes - (block_bytes - (len - at))) }
 {
-    if len - at < BLOCK_BYTES {
-        return len;
-    }
-    at + BLOCK_BYTES
+    at + (len - at).min(BLOCK_BYTES)
 }
 
 impl LentRun {
     // A run before its first block: no study opened yet. Its sums are zeros.
+    #[tactic(auto, unfolding(crate::specs::LentRuns::run_with, crate::specs::Run::started, study::specs::Sums::none, study::specs::Study::fresh))]
     pub fn start() -> LentRun
         ensures { run_with result none ≡ started }
     {
@@ -43,40 +42,39 @@ impl LentRun {
             window,
             taken: 0,
             due: 0,
-            refused: 0,
-            block: 0,
-            place: 0,
+            stop: None,
         }
     }
 
     // The run with some claims taken, refused at the block due.
-    fn stopped(self, taken: u32, refused: u8, place: u8) -> LentRun
-        ensures { result ≡ lent_stops self taken refused place }
+    #[tactic(auto, unfolding(crate::specs::Private::lent_stops))]
+    fn stopped(self, taken: u32, refusal: Refusal, place: u8) -> LentRun
+        ensures { result ≡ lent_stops self taken refusal place }
     {
-        let window = self.window;
-        LentRun {
-            window,
-            taken,
-            due: self.due,
-            refused,
+        let stop = Stop {
+            refusal,
             block: self.due,
             place,
+        };
+        LentRun {
+            window: self.window,
+            taken,
+            due: self.due,
+            stop: Some(stop),
         }
     }
 
     // The run after a sound block whose claims were all taken.
+    #[tactic(auto, unfolding(crate::specs::Private::lent_goes_on))]
     fn continued(self, taken: u32) -> LentRun
         requires { self.due < 65536 }
         ensures { result ≡ lent_goes_on self taken }
     {
-        let window = self.window;
         LentRun {
-            window,
+            window: self.window,
             taken,
             due: self.due + 1,
-            refused: 0,
-            block: 0,
-            place: 0,
+            stop: None,
         }
     }
 
@@ -84,66 +82,49 @@ impl LentRun {
     pub fn end(self) -> LentRun
         ensures { (sums : List ℤ) → run_with result sums ≡ ended (run_with self sums) }
     {
-        if self.refused != 0 {
+        if self.stop.is_some() || self.due > 0 {
             return self;
         }
-        if self.due > 0 {
-            return self;
-        }
-        self.stopped(self.taken, refusal::BLOCK, 0)
+        self.stopped(self.taken, Refusal::Block, 0)
     }
 
     // The run that it makes up with its sums.
+    #[tactic(auto, unfolding(crate::specs::LentRuns::run_with))]
     pub fn with_sums(self, sums: [i64; 80]) -> FileRun
-        ensures { result ≡ run_with self sums }
+        ensures { run_by_number result ≡ run_with self sums }
     {
-        let window = self.window;
         FileRun {
             study: Study {
-                window,
+                window: self.window,
                 taken: self.taken,
                 sums,
             },
             due: self.due,
-            refused: self.refused,
-            block: self.block,
-            place: self.place,
+            stop: self.stop,
         }
     }
 }
 
 // A block begun: its window opened if it is block 0, so with no claims and zero sums; refused 11 if it is not sound.
 fn begin(run: LentRun, bytes: &[u8], sums: &mut [i64; 80]) -> LentRun
-    requires { run.refused ≡ 0 }
+    requires { IsNone run.stop }
     ensures { run_with result sums.new ≡ block_begun (run_with run sums.old) bytes.now }
 {
     if !is_sound(bytes, run.due) {
-        return run.stopped(run.taken, refusal::BLOCK, 0);
+        return run.stopped(run.taken, Refusal::Block, 0);
     }
     if run.due != 0 {
         return run;
     }
     clear(sums);
     match claim_months::windows::window(date_at(bytes, 16), date_at(bytes, 20)) {
-        MaybeWindow::Known(window) => LentRun {
+        Ok(window) => LentRun {
             window,
             taken: 0,
             due: run.due,
-            refused: 0,
-            block: run.block,
-            place: run.place,
+            stop: None,
         },
-        MaybeWindow::Refused(number) => LentRun {
-            window: Window {
-                first: Day(0),
-                last: Day(0),
-            },
-            taken: 0,
-            due: run.due,
-            refused: number,
-            block: run.due,
-            place: 0,
-        },
+        Err(refusal) => LentRun::start().stopped(0, refusal, 0),
     }
 }
 
@@ -158,33 +139,31 @@ pub fn feed_lent(
 ) -> LentRun
     ensures { run_with result sums.new ≡ fed (run_with from sums.old) (adding_with kind table.now) bytes.now }
 {
-    if from.refused != 0 {
+    if from.stop.is_some() {
         return from;
     }
     let mut run = from;
     let mut at = 0;
+    // Kept: document 01 names this form, two loops that the label leaves at the first refusal.
     'file: while at < bytes.len() {
         let end = block_end(at, bytes.len());
         let part = &bytes[at..end];
         run = begin(run, part, sums);
-        if run.refused != 0 {
+        if run.stop.is_some() {
             break 'file;
         }
         let window = run.window;
         let mut taken = run.taken;
         let spare = has_room_for_block(sums);
         let count = part[2];
-        let mut place = 0;
-        while place < count {
+        for place in 0..count {
             let claim = claim_at(part, place);
             let room = has_still_room(spare, sums);
-            let refused = add_to(kind, table, claim, window, taken, room, sums);
-            if refused != 0 {
-                run = run.stopped(taken, refused, place + 1);
+            if let Err(refusal) = add_to(kind, table, claim, window, taken, room, sums) {
+                run = run.stopped(taken, refusal, place + 1);
                 break 'file;
             }
             taken += 1;
-            place += 1;
         }
         run = run.continued(taken);
         at = end;
@@ -193,9 +172,22 @@ pub fn feed_lent(
 }
 
 impl FileRun {
+    // The run but for its study's sums.
+    #[tactic(auto, unfolding(crate::specs::LentRuns::run_with))]
+    fn lent(self) -> LentRun
+        ensures { run_with result self.study.sums ≡ run_by_number self }
+    {
+        LentRun {
+            window: self.study.window,
+            taken: self.study.taken,
+            due: self.due,
+            stop: self.stop,
+        }
+    }
+
     // A run before its first block: no study opened yet.
     pub fn start() -> FileRun
-        ensures { result ≡ started }
+        ensures { run_by_number result ≡ started }
     {
         LentRun::start().with_sums([0; 80])
     }
@@ -203,61 +195,38 @@ impl FileRun {
     // The run with the blocks of some bytes taken, a part block at the end with them, up to the first refusal, with a table of either
     // kind. The sums are lent to each addition: a study handed on by value would be a copy with each claim.
     pub fn feed_with(self, kind: Kind, table: &[u32], bytes: &[u8]) -> FileRun
-        ensures { result ≡ fed self (adding_with kind table.now) bytes.now }
+        ensures { run_by_number result ≡ fed (run_by_number self) (adding_with kind table.now) bytes.now }
     {
-        let study = self.study;
-        let window = study.window;
-        let mut sums = study.sums;
-        let from = LentRun {
-            window,
-            taken: study.taken,
-            due: self.due,
-            refused: self.refused,
-            block: self.block,
-            place: self.place,
-        };
-        let run = feed_lent(kind, table, bytes, from, &mut sums);
+        let mut sums = self.study.sums;
+        let run = feed_lent(kind, table, bytes, self.lent(), &mut sums);
         run.with_sums(sums)
     }
 
     // The same with plain rates.
     pub fn feed(self, rates: &[u32], bytes: &[u8]) -> FileRun
-        ensures { result ≡ fed self (adding rates.now) bytes.now }
+        ensures { run_by_number result ≡ fed (run_by_number self) (adding rates.now) bytes.now }
     {
         self.feed_with(Kind::Plain, rates, bytes)
     }
 
     // The run at the end of its file: one without block 0 is refused 11.
     pub fn end(self) -> FileRun
-        ensures { result ≡ ended self }
+        ensures { run_by_number result ≡ ended (run_by_number self) }
     {
-        if self.refused != 0 {
-            return self;
-        }
-        if self.due != 0 {
-            return self;
-        }
-        let study = self.study;
-        FileRun {
-            study,
-            due: self.due,
-            refused: refusal::BLOCK,
-            block: self.due,
-            place: 0,
-        }
+        self.lent().end().with_sums(self.study.sums)
     }
 }
 
 // The run of a whole file, with a table of either kind.
 pub fn run_with(kind: Kind, table: &[u32], bytes: &[u8]) -> FileRun
-    ensures { result ≡ file_run_with (adding_with kind table.now) bytes.now }
+    ensures { run_by_number result ≡ file_run_with (adding_with kind table.now) bytes.now }
 {
     FileRun::start().feed_with(kind, table, bytes).end()
 }
 
 // The run of a whole file.
 pub fn run_file(rates: &[u32], bytes: &[u8]) -> FileRun
-    ensures { result ≡ file_run rates.now bytes.now }
+    ensures { run_by_number result ≡ file_run rates.now bytes.now }
 {
     run_with(Kind::Plain, rates, bytes)
 }

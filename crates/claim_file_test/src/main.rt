@@ -9,10 +9,11 @@
 
 ghost use Rattle.std.specs.Prelude.{◌≤◌, length, IfOk};
 
+use basics::refusal::{number_in, number_refused};
 use claim_file::corrections::run_corrected;
+use claim_file::record::no_claim;
 use claim_file::run::run_file;
-use claim_file::{Block, CorrectedRun, FileRun, MaybeDates, WindowDates, blocks};
-use claim_months::Claim;
+use claim_file::{Block, FileRun, RunEnd, Stop, WindowDates, blocks};
 use std::fs::File;
 use std::io;
 use std::io::Read;
@@ -43,35 +44,19 @@ fn put_study(rt: &impl Print, study: Study) -> io::Result<()> {
     put_next(rt, study.window.first.0 as u64)?;
     put_next(rt, study.window.last.0 as u64)?;
     put_end(rt)?;
-    put_group(rt, &sums, 1)?;
-    put_group(rt, &sums, 2)?;
-    put_group(rt, &sums, 3)?;
-    put_group(rt, &sums, 4)?;
-    put_group(rt, &sums, 5)
+    for number in 1..=5 {
+        put_group(rt, &sums, number)?;
+    }
+    Ok(())
 }
 
 // The number refused, block and place, and the study.
-fn put_outcome(
-    rt: &impl Print,
-    refused: u8,
-    block: u32,
-    place: u8,
-    study: Study,
-) -> io::Result<()> {
-    put_next(rt, refused as u64)?;
-    put_next(rt, block as u64)?;
-    put_next(rt, place as u64)?;
+fn put_outcome(rt: &impl Print, stop: Option<Stop>, study: Study) -> io::Result<()> {
+    let end = RunEnd::from(stop);
+    put_next(rt, end.number as u64)?;
+    put_next(rt, end.block as u64)?;
+    put_next(rt, end.place as u64)?;
     put_study(rt, study)
-}
-
-fn put_run(rt: &impl Print, run: FileRun) -> io::Result<()> {
-    let study = run.study;
-    put_outcome(rt, run.refused, run.block, run.place, study)
-}
-
-fn put_corrected_run(rt: &impl Print, run: CorrectedRun) -> io::Result<()> {
-    let study = run.study;
-    put_outcome(rt, run.refused, run.block, run.place, study)
 }
 
 // The file of a letter.
@@ -85,6 +70,7 @@ fn read_full(file: &mut impl Read, bytes: &mut [u8]) -> io::Result<usize>
     ensures { IfOk result (λ n. n ≤ length bytes.new) }
 {
     let mut done = 0;
+    // Kept: `read_exact` fails at a file that ends before the bytes are full.
     while done < bytes.len() {
         let more = file.read(&mut bytes[done..])?;
         if more == 0 {
@@ -95,34 +81,36 @@ fn read_full(file: &mut impl Read, bytes: &mut [u8]) -> io::Result<usize>
     Ok(done)
 }
 
-// The run of a whole file, with corrections or without.
-fn put_file_with(
-    rt: &(impl Files + Print),
-    corrections: bool,
-    letter: u8,
-    table: &[u32],
-) -> io::Result<()> {
-    let mut bytes = [0u8; 2048];
+// The start of the bytes is the file of a letter, and how many they are.
+fn read_file(rt: &impl Files, letter: u8, bytes: &mut [u8]) -> io::Result<usize>
+    ensures { IfOk result (λ n. n ≤ length bytes.new) }
+{
     let mut file = open(rt, letter)?;
-    let n = read_full(&mut file, &mut bytes)?;
-    put(rt, &[letter])?;
-    if corrections {
-        put_corrected_run(rt, run_corrected(table, &bytes[..n]))?;
-    } else {
-        put_run(rt, run_file(table, &bytes[..n]))?;
-    }
-    Ok(())
+    read_full(&mut file, bytes)
 }
 
+// The run of a whole file.
 fn put_file(rt: &(impl Files + Print), letter: u8, table: &[u32]) -> io::Result<()> {
-    put_file_with(rt, false, letter, table)
+    let mut bytes = [0u8; 2048];
+    let n = read_file(rt, letter, &mut bytes)?;
+    put(rt, &[letter])?;
+    let run = run_file(table, &bytes[..n]);
+    put_outcome(rt, run.stop, run.study)
+}
+
+// The same with corrections.
+// Kept: `run_file` and `run_corrected` answer two structs: one function for both needs two closures that take them apart, and is no shorter.
+fn put_corrected(rt: &(impl Files + Print), letter: u8, table: &[u32]) -> io::Result<()> {
+    let mut bytes = [0u8; 2048];
+    let n = read_file(rt, letter, &mut bytes)?;
+    put(rt, &[letter])?;
+    let run = run_corrected(table, &bytes[..n]);
+    put_outcome(rt, run.stop, run.study)
 }
 
 fn put_files(rt: &(impl Files + Print), table: &[u32]) -> io::Result<()> {
-    let mut letter = b'a';
-    while letter < b'z' {
+    for letter in b'a'..b'z' {
         put_file(rt, letter, table)?;
-        letter += 1;
     }
     Ok(())
 }
@@ -134,26 +122,21 @@ fn fed_piece(run: FileRun, file: &mut impl Read, table: &[u32]) -> io::Result<Fi
     Ok(run.feed(table, &piece[..n]))
 }
 
-// The same of two pieces.
-fn fed_two(run: FileRun, file: &mut impl Read, table: &[u32]) -> io::Result<FileRun> {
-    let one = fed_piece(run, file, table)?;
-    fed_piece(one, file, table)
-}
-
-// The run of a file fed in two pieces, and where it is long in two more. Some may be empty.
-fn put_pieces(rt: &(impl Files + Print), letter: u8, long: bool, table: &[u32]) -> io::Result<()> {
+// The run of a file fed in some pieces, of which the last may be empty.
+fn put_pieces(rt: &(impl Files + Print), letter: u8, pieces: u8, table: &[u32]) -> io::Result<()> {
     put(rt, &[letter])?;
     let mut file = open(rt, letter)?;
-    let mut run = fed_two(FileRun::start(), &mut file, table)?;
-    if long {
-        run = fed_two(run, &mut file, table)?;
+    let mut run = FileRun::start();
+    for _ in 0..pieces {
+        run = fed_piece(run, &mut file, table)?;
     }
-    put_run(rt, run.end())
+    let ended = run.end();
+    put_outcome(rt, ended.stop, ended.study)
 }
 
 // Writing a block: the number refused, and how many bytes of a list of at most 513 times 255 changed.
 fn put_write(rt: &impl Print, number: u32, block: Block, out: &mut [u8]) -> io::Result<()> {
-    put_next(rt, blocks::write(number, block, out) as u64)?;
+    put_next(rt, number_refused(blocks::write(number, block, out)) as u64)?;
     put_next(rt, differences(out, &[255u8; 513]))
 }
 
@@ -175,29 +158,29 @@ fn put_refused(rt: &impl Print, block: Block) -> io::Result<()> {
     put_end(rt)
 }
 
-fn put_benefit(rt: &impl Print, claim: Claim) -> io::Result<()> {
-    put_next(rt, claim.benefit as u64)
-}
-
 // The benefits of a block's first three claims.
 fn put_benefits(rt: &impl Print, block: Block) -> io::Result<()> {
     let claims = block.claims;
-    put_benefit(rt, claims[0])?;
-    put_benefit(rt, claims[1])?;
-    put_benefit(rt, claims[2])
+    for claim in &claims[..3] {
+        put_next(rt, claim.benefit as u64)?;
+    }
+    Ok(())
 }
 
 // A block's check at numbers 0 to 2, what reading finds, and the block written again against the first.
 fn put_block(rt: &impl Print, bytes: &[u8], out: &mut [u8]) -> io::Result<()> {
-    put_next(rt, blocks::check(bytes, 0) as u64)?;
-    put_next(rt, blocks::check(bytes, 1) as u64)?;
-    put_next(rt, blocks::check(bytes, 2) as u64)?;
+    for due in 0..3 {
+        put_next(rt, number_refused(blocks::check(bytes, due)) as u64)?;
+    }
     let found = blocks::read(bytes, 1);
-    let block = found.block;
-    put_next(rt, found.refused as u64)?;
+    put_next(rt, number_in(found.err()) as u64)?;
+    let block = found.unwrap_or(Block {
+        count: 0,
+        claims: [no_claim(); 15],
+    });
     put_next(rt, block.count as u64)?;
     put_benefits(rt, block)?;
-    put_next(rt, blocks::write(1, block, out) as u64)?;
+    put_next(rt, number_refused(blocks::write(1, block, out)) as u64)?;
     put_next(rt, differences(bytes, out))?;
     put_end(rt)?;
     put_refused(rt, block)
@@ -214,46 +197,43 @@ fn put_window(
     let last = window.last;
     put_next(rt, first.year as u64)?;
     put_next(rt, last.year as u64)?;
-    put_next(rt, blocks::write_window(first, last, out) as u64)?;
+    put_next(
+        rt,
+        number_refused(blocks::write_window(first, last, out)) as u64,
+    )?;
     put_next(rt, differences(bytes, out))?;
     let mut short = [255u8; 511];
-    put_next(rt, blocks::write_window(first, last, &mut short) as u64)?;
+    put_next(
+        rt,
+        number_refused(blocks::write_window(first, last, &mut short)) as u64,
+    )?;
     put_end(rt)
 }
 
 // Block 0's check and its window.
 fn put_head(rt: &impl Print, bytes: &[u8], out: &mut [u8]) -> io::Result<()> {
-    put_next(rt, blocks::check(bytes, 0) as u64)?;
-    let found = blocks::read_window(bytes);
-    match found {
-        MaybeDates::Known(window) => put_window(rt, window, bytes, out)?,
-        MaybeDates::Refused(number) => put_next(rt, number as u64)?,
+    put_next(rt, number_refused(blocks::check(bytes, 0)) as u64)?;
+    match blocks::read_window(bytes) {
+        Ok(window) => put_window(rt, window, bytes, out),
+        Err(refusal) => put_next(rt, u8::from(refusal) as u64),
     }
-    Ok(())
 }
 
-// The next 512 bytes of a file as block 0, read and written.
-fn put_next_head(rt: &impl Print, file: &mut impl Read) -> io::Result<()> {
+// The next 512 bytes of a file.
+fn next_bytes(file: &mut impl Read) -> io::Result<[u8; 512]> {
     let mut bytes = [0u8; 512];
-    let mut out = [255u8; 512];
     read_full(file, &mut bytes)?;
-    put_head(rt, &bytes, &mut out)
+    Ok(bytes)
 }
 
-// The same as block 1.
-fn put_next_block(rt: &impl Print, file: &mut impl Read) -> io::Result<()> {
-    let mut bytes = [0u8; 512];
-    let mut out = [255u8; 512];
-    read_full(file, &mut bytes)?;
-    put_block(rt, &bytes, &mut out)
-}
-
-// The first two blocks of a file.
+// The first two blocks of a file as block 0 and block 1, read and written.
 fn put_blocks(rt: &(impl Files + Print), letter: u8) -> io::Result<()> {
     put(rt, &[letter])?;
     let mut file = open(rt, letter)?;
-    put_next_head(rt, &mut file)?;
-    put_next_block(rt, &mut file)
+    let head = next_bytes(&mut file)?;
+    put_head(rt, &head, &mut [255; 512])?;
+    let block = next_bytes(&mut file)?;
+    put_block(rt, &block, &mut [255; 512])
 }
 
 // Cell 0 has recovery rates 10,000 and death rates 5,000; only that cell is lent.
@@ -278,22 +258,20 @@ fn put_wide(rt: &(impl Files + Print), table: &mut [u32; 246206]) -> io::Result<
 }
 
 fn put_all_pieces(rt: &(impl Files + Print), table: &[u32]) -> io::Result<()> {
-    put_pieces(rt, b'a', false, table)?;
-    put_pieces(rt, b'a', true, table)?;
-    put_pieces(rt, b'b', true, table)?;
-    put_pieces(rt, b'g', true, table)?;
-    put_pieces(rt, b'h', true, table)?;
-    put_pieces(rt, b'i', true, table)
+    put_pieces(rt, b'a', 2, table)?;
+    for letter in [b'a', b'b', b'g', b'h', b'i'] {
+        put_pieces(rt, letter, 4, table)?;
+    }
+    Ok(())
 }
 
 // Runs with corrections, and the same file without.
 fn put_corrections(rt: &(impl Files + Print), table: &[u32]) -> io::Result<()> {
     put_file(rt, b'z', table)?;
-    put_file_with(rt, true, b'z', table)?;
-    put_file_with(rt, true, b'a', table)?;
-    put_file_with(rt, true, b'b', table)?;
-    put_file_with(rt, true, b'e', table)?;
-    put_file_with(rt, true, b'h', table)
+    for letter in [b'z', b'a', b'b', b'e', b'h'] {
+        put_corrected(rt, letter, table)?;
+    }
+    Ok(())
 }
 
 fn main(rt: HostRuntime) -> io::Result<()> {
@@ -303,11 +281,9 @@ fn main(rt: HostRuntime) -> io::Result<()> {
     put_files(&rt, &two)?;
     put_refused_tables(&rt)?;
     put_all_pieces(&rt, &two)?;
-    put_blocks(&rt, b'a')?;
-    put_blocks(&rt, b'g')?;
-    put_blocks(&rt, b'k')?;
-    put_blocks(&rt, b'x')?;
-    put_blocks(&rt, b'y')?;
+    for letter in [b'a', b'g', b'k', b'x', b'y'] {
+        put_blocks(&rt, letter)?;
+    }
     put_wide(&rt, &mut [0u32; 246206])?;
     put_corrections(&rt, &one[0..958])
 }

@@ -1,9 +1,8 @@
-use Prim.Native.Nat.{◌-◌, ◌≤◌}
+use mathlib.Core.List.{◌++◌}
+use lib.ListN.{drop, replicate}
+use Rattle.claim_file.specs.BlockAnswers.{no_claim}
 use Rattle.claim_file.proofs.Reading.{Placed}
 use Rattle.claim_file.proofs.blocks.claims_of.Given as goal
 
 abbrev pub invariant-loop-place : goal.invariant-loop-place
-invariant-loop-place l = (l.place ≤ l.count) × Placed l.bytes l.place l.claims
-
-abbrev pub decreases-loop-place : goal.decreases-loop-place
-decreases-loop-place l = l.count - l.place
+invariant-loop-place l = Placed l.fn.bytes l.place (l.claim-items ++ drop l.fn.count (replicate 15 no_claim))

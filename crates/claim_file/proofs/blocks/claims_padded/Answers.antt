@@ -1,23 +1,19 @@
--- `claims_padded` meets its contract. The loop's invariant: the claims that are left decide. Assumes nothing.
+-- `claims_padded` meets its contract: the claims are padded one by one, or one that is not decides. Assumes nothing.
+use Rattle.std.proofs.Common.{rules, tests}
+use Prim.Native.Nat.{◌+◌, ◌*◌}
 use native.Mathlib.Omega.{arith}
-use mathlib.Core.Path.{◌≡◌, sym, ap, ◌∙◌}
-use Rattle.claim_file.specs.Block.{claims_padded}
-use Rattle.claim_file.proofs.RecordParts.{padded-on, padded-off}
+use mathlib.Core.Path.{◌≡◌, ◌∙◌}
+use Rattle.std.specs.List.{range_with_len, list_all}
+use Rattle.std.proofs.lemmas.Iterator.{YieldsList-from_range}
+use Rattle.std.proofs.lemmas.Iterator.Search.{all_from_yields_List}
+use Rattle.claim_file.specs.Record.{record_padded}
+use Rattle.claim_file.proofs.RecordParts.{padded-all}
 use Rattle.claim_file.proofs.blocks.claims_padded.Goals as goal
 
-pub returns-then-not-is_padded : goal.returns-then-not-is_padded
-returns-then-not-is_padded c =
-    let l = c.loop-left in
-    sym (l.invariant.1 ∙ padded-off _ l.left (omega arith) (sym c.is_padded.ensures ∙ c.if-not-is_padded.true))
-
-pub loop-left-preserved : goal.loop-left-preserved
-loop-left-preserved c =
-    let l = c.loop-left in
-    (omega arith, l.invariant.1 ∙ padded-on _ l.left (omega arith) (sym c.is_padded.ensures ∙ c.if-not-is_padded.false))
-
 pub returns : goal.returns
-unfolding claims_padded
 returns c =
-    let l = c.loop-left in
-    let e : l.left ≡ 0 = omega arith in
-    sym (l.invariant.1 ∙ ap (claims_padded _) e)
+    let bytes = c.args.bytes.now in
+    let each : c.all.result ≡ list_all (λ k. record_padded bytes (16 + 32 * k)) (range_with_len 0 c.args.count) =
+    all_from_yields_List (λ k. record_padded bytes (16 + 32 * k)) _ _ c.all.result c.all.ensures.ran
+    (YieldsList-from_range 0 c.args.count c.args.count (cc) (omega arith)) (λ x b q k. search (rules, tests)) in
+    each ∙ padded-all bytes c.args.count

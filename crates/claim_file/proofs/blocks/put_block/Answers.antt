@@ -10,6 +10,6 @@ pub returns : goal.returns
 returns c =
     let b = c.args.block in
     let fifteen : length b.claims ≡ 15 = c.well_formed.1.0.1.1.1.0.1.0.1 in
-    block_written c.args.bytes.now _ _ _ _ c.args.number b.count (take b.count b.claims) c.requires.bytes_len
+    block_written c.args.bytes.now _ _ _ _ c.args.number b.count (take b.count b.claims) (omega arith)
     (length-take-le b.count b.claims (omega arith)) c.requires.count_bound
     c.put_head.ensures c.put_claims.ensures c.put_zeros.ensures c.put_check.ensures

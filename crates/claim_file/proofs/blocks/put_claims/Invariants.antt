@@ -1,5 +1,4 @@
 use mathlib.Core.Path.{◌≡◌}
-use Prim.Native.Nat.{◌-◌, ◌≤◌}
 use lib.ListN.{length, take}
 use lib.Seq.{sets}
 use Rattle.claim_file.specs.Record.{all_claim_bytes}
@@ -7,7 +6,4 @@ use Rattle.claim_file.proofs.blocks.put_claims.Given as goal
 
 abbrev pub invariant-loop-place : goal.invariant-loop-place
 invariant-loop-place l =
-    (l.place ≤ l.block.count) × (l.bytes ≡ sets l.initial.bytes 16 (all_claim_bytes (take l.place l.block.claims))) × (length l.bytes ≡ 512)
-
-abbrev pub decreases-loop-place : goal.decreases-loop-place
-decreases-loop-place l = l.block.count - l.place
+    (l.bytes ≡ sets l.initial.bytes 16 (all_claim_bytes (take l.place l.claim-items))) × (length l.bytes ≡ 512)

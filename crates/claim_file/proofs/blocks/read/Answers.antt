@@ -4,16 +4,19 @@ use mathlib.Core.Path.{◌≡◌, refl, sym, ◌∙◌}
 use mathlib.Core.Bool.{true}
 use Rattle.claim_file.specs.Bytes.{byte_at}
 use Rattle.claim_file.specs.Block.{claim_block, claim_count}
+use Rattle.claim_file.specs.BlockAnswers.{read_of}
 use Rattle.claim_file.proofs.BlockTests.{claim-block}
 use Rattle.claim_file.proofs.Reading.{read-zero, read-refused, read_known}
 use Rattle.claim_file.proofs.blocks.read.Goals as goal
+use Rattle.claim_file.proofs.blocks.read.Goals.{then-due-eq0-via-then-due-eq0, then-due-eq0-via-else-due-eq0+then-not-is_claim_block}
 
 pub returns-then-due-eq0 : goal.returns-then-due-eq0
-returns-then-due-eq0 c = c.refused_read.ensures ∙ read-zero _ _ c.if-due-eq0.true
-
-pub returns-then-not-is_claim_block : goal.returns-then-not-is_claim_block
-returns-then-not-is_claim_block c =
-    c.refused_read-then-not-is_claim_block.ensures ∙ read-refused _ _ (sym c.is_claim_block.ensures ∙ c.if-not-is_claim_block.true)
+unfolding read_of
+returns-then-due-eq0 c =
+    elim c.then-due-eq0.branch [
+      | then-due-eq0-via-then-due-eq0 w ↦ read-zero _ _ w.if-due-eq0.true
+      | then-due-eq0-via-else-due-eq0+then-not-is_claim_block w ↦ read-refused _ _ (sym w.is_claim_block.ensures ∙ w.if-not-is_claim_block.true)
+    ]
 
 pub bounds-bytes-2 : goal.bounds-bytes-2
 bounds-bytes-2 c =

@@ -1,6 +1,5 @@
 -- `read_window` meets its contract. Assumes nothing.
 use Rattle.claim_file.proofs.Reading.{window-known}
-use Rattle.claim_file.specs.declared.MaybeDates.TheVariants.{Known}
 use native.Mathlib.Omega.{arith}
 use mathlib.Core.Path.{◌≡◌, sym, ◌∙◌}
 use mathlib.Core.Bool.{true}
@@ -8,6 +7,7 @@ use Rattle.claim_file.specs.Block.{window_block}
 use Rattle.claim_file.specs.BlockAnswers.{window_of}
 use Rattle.claim_file.proofs.BlockTests.{window-block}
 use Rattle.claim_file.proofs.blocks.read_window.Goals as goal
+use Rattle.std.specs.Prelude.{Ok}
 
 pub returns-then-not-is_window_block : goal.returns-then-not-is_window_block
 unfolding window_of
@@ -26,4 +26,4 @@ date_at-requires-2 c =
 pub returns : goal.returns
 returns c =
     let window : window_block c.args.bytes.now ≡ true = sym c.is_window_block.ensures ∙ c.if-not-is_window_block.false in
-    (λ i. Known (record { first = c.date_at.ensures i; last = c.date_at-2.ensures i })) ∙ window-known _ window
+    (λ i. Ok (record { first = c.date_at.ensures i; last = c.date_at-2.ensures i })) ∙ window-known _ window

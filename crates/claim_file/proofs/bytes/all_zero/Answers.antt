@@ -1,26 +1,36 @@
 -- `all_zero` meets its contract. The loop's invariant: the bits so far and what is left to test decide. Assumes nothing.
 use native.Mathlib.Omega.{arith}
-use Prim.Native.Nat.{◌-◌}
-use mathlib.Core.Path.{◌≡◌, sym, ap, ◌∙◌}
+use Prim.Native.Nat.{ℕ, ◌+◌, ◌-◌, ◌<◌}
+use mathlib.Core.Path.{◌≡◌, refl, sym, ap, ◌∙◌}
 use mathlib.Core.Bool.{Bool, ◌&&◌, and-true}
+use lib.ListN.{get_or, drop, take, length-take, length-drop}
 use lib.Dec.{eqb}
+use lib.Bits.{bit_or}
+use Rattle.std.proofs.Common.{get_or-take, get_or-drop}
 use Rattle.claim_file.specs.Bytes.{byte_at, zero_from}
 use Rattle.claim_file.proofs.RecordParts.{zero-step}
-use native.Mathlib.Nat.{add-zero, sub-zero}
 use Rattle.claim_file.proofs.bytes.all_zero.Goals as goal
 
-pub loop-i-init : goal.loop-i-init
-loop-i-init c = (omega arith, rw (add-zero, sub-zero))
-
-pub loop-i-preserved : goal.loop-i-preserved
+pub loop-byte-preserved : goal.loop-byte-preserved
 unfolding byte_at
-loop-i-preserved c =
-    let l = c.loop-i in
-    (omega arith, l.invariant.1 ∙ zero-step _ _ _ l.i _ l.all (omega arith) (omega arith))
+loop-byte-preserved c =
+    let l = c.loop-byte in
+    let a = c.args in
+    let i = l.byte-index in
+    let n = a.from + a.count - a.from in
+    let rest = drop a.from a.bytes.now in
+    let here : i < n = omega (arith, length-take n rest, c.loop-byte-test.true) in
+    let same : get_or (take n rest) i 0 ≡ byte_at a.bytes.now (a.from + i) = get_or-take n rest i 0 here ∙ get_or-drop a.from a.bytes.now i 0 in
+    l.invariant
+    ∙ zero-step a.bytes.now a.from a.count i (a.from + i) l.all (omega arith) refl
+    ∙ ap (λ (b : ℕ). eqb (bit_or l.all b) 0 && zero_from a.bytes.now (a.from + (i + 1)) (a.count - (i + 1))) (sym same)
 
 pub returns : goal.returns
 unfolding zero_from
 returns c =
-    let l = c.loop-i in
-    let e : c.args.count - l.i ≡ 0 = omega arith in
-    sym (l.invariant.1 ∙ ap (λ (t : Bool). eqb l.all 0 && t) (ap (zero_from _ _) e) ∙ and-true _)
+    let l = c.loop-byte in
+    let a = c.args in
+    let n = a.from + a.count - a.from in
+    let rest = drop a.from a.bytes.now in
+    let e : a.count - l.byte-index ≡ 0 = omega (arith, length-take n rest, length-drop a.from a.bytes.now, c.loop-byte-test.false) in
+    sym (l.invariant ∙ ap (λ (t : Bool). eqb l.all 0 && t) (ap (zero_from _ _) e) ∙ and-true _)

@@ -3,6 +3,9 @@ use Prim.Native.Nat.{ℕ, ◌+◌, ◌*◌, ◌≤◌, ◌<◌}
 use mathlib.Core.Path.{◌≡◌}
 use native.Mathlib.Omega.{arith}
 use lib.ListN.{get_or}
+use mir.Syntax.{w8}
+use mir.Val.{Fits}
+use borrow.Author.Rules.{rules}
 use Rattle.claim_file.specs.Bytes.{byte_at}
 use Rattle.claim_file.specs.Block.{check_sum}
 use Rattle.claim_file.proofs.CheckColumns.{check-sum-low, both_halves}
@@ -19,7 +22,7 @@ halves c = both_halves c.args.bytes.now _ _ c.half_sum.ensures c.half_sum-2.ensu
 pub overflow_add-result : goal.overflow_add-result
 unfolding byte_at
 overflow_add-result c =
-    let byte : (k : ℕ) → get_or c.args.bytes.now k 0 < 256 = λ k. omega (arith, c.type_inv.bytes k) in
+    let byte : (k : ℕ) → get_or c.args.bytes.now k 0 < 256 = λ k. let fits : Fits w8 (get_or c.args.bytes.now k 0) = search rules in omega (arith, fits) in
     let low : check_sum c.args.bytes.now 510 ≤ 130560 * 510 = check-sum-low c.args.bytes.now byte 510 (omega arith) in
     omega (arith, halves (goal.at.overflow_add-result c).After-half_sum-2, low, byte 510, byte 511)
 

@@ -1,4 +1,4 @@
--- `half_sum` meets its contract. Invariant: the columns of the rows passed, from the last one back. Measure: the rows left. Assumes nothing.
+-- `half_sum` meets its contract. Invariant: the columns of the rows passed, from the last one back. Assumes nothing.
 use Prim.Native.Nat.{◌+◌, ◌*◌}
 use mathlib.Core.Path.{◌≡◌, refl}
 use native.Mathlib.Omega.{arith}

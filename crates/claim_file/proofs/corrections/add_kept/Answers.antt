@@ -8,13 +8,14 @@ use mathlib.Core.Bool.{true}
 use mathlib.Core.List.{List, ◌∷◌}
 use lib.ListN.{length, take, drop, get_or}
 use Rattle.claim_months.specs.declared.Claim.{Claim}
-use Rattle.claim_file.specs.declared.CorrectedRun.{CorrectedRun}
+use Rattle.claim_file.specs.Runs.{CorrectedRun, corrected_by_number}
 use Rattle.claim_file.specs.Bytes.{byte_at}
 use Rattle.claim_file.specs.Block.{claim_count, block_claim, block_sound}
 use Rattle.claim_file.specs.Run.{Adding}
 use Rattle.claim_file.specs.Corrections.{PlacedClaim, file_records, sound_all, records_added}
 use Rattle.claim_file.specs.PreparedRuns.{adding_with}
 use Rattle.claim_file.specs.Marks.{unless_superseded}
+use Rattle.claim_file.proofs.Stops.{stop-number, no-stop-number}
 use Rattle.claim_file.proofs.Runs.{Sound, sound}
 use Rattle.claim_file.proofs.Slots.{block_of, block-byte}
 use Rattle.claim_file.proofs.CorrectedRuns.{Left, left-first, left-rest, left-on, left-none, left_step, left-stop, later_records, block_left, placed, all-records, into_block, next_place, block-done, file-done, block-cut, block-due, block-sound, within_all, marked-later}
@@ -64,7 +65,7 @@ next-left add file block place first run index all h l = left-rest _ _ _ _ _ _ _
 
 -- what adding the record at a place comes to
 added-so : (c : After-add_record-run)
-    → c.add_record-run.result
+    → corrected_by_number c.add_record-run.result
     ≡ records_added (adding_with c.args.kind c.args.table.now) c.loop-place.run.study
     (unless_superseded c.is_marked.result (block_claim (cut c.args.file.now c.file.block) c.loop-place.place) c.file.block (c.loop-place.place + 1))
 added-so c =
@@ -87,27 +88,27 @@ claim_at-requires c =
     let within : c.file.block < length c.args.file.now / 512 = omega arith in
     record {
       bytes_len = (cut-sound c.args.file.now c.file.block within c.requires.file_value).length-so;
-      place_bound = place-low c.args.file.now c.file.block within c.requires.file_value c.loop-place.place c.loop-place-test.true;
+      place_bound = place-low c.args.file.now c.file.block within c.requires.file_value c.loop-place.place (omega arith);
     }
 
 pub is_marked-requires : goal.is_marked-requires
 is_marked-requires c =
-    let l = next-left _ c.args.file.now c.file.block c.loop-place.place _ _ _ _ c.loop-place-test.true c.loop-place.invariant.1 in
+    let l = next-left _ c.args.file.now c.file.block c.loop-place.place _ _ _ _ (omega arith) c.loop-place.invariant.1 in
     let index-so : c.loop-place.index < length (file_records c.args.file.now) = within_all _ _ _ _ l.behind in
-    omega (arith, index-so, c.requires.file_len_bound, c.requires.marks_len)
+    omega (arith, index-so, c.requires.file_len_bound)
 
 pub overflow_add-index : goal.overflow_add-index
 overflow_add-index c =
-    let l = next-left _ c.args.file.now c.file.block c.loop-place.place _ _ _ _ c.loop-place-test.true c.loop-place.invariant.1 in
+    let l = next-left _ c.args.file.now c.file.block c.loop-place.place _ _ _ _ (omega arith) c.loop-place.invariant.1 in
     let index-so : c.loop-place.index < length (file_records c.args.file.now) = within_all _ _ _ _ l.behind in
     omega (arith, index-so, c.requires.file_len_bound)
 
 pub loop-place-preserved : goal.loop-place-preserved
 unfolding unless_superseded
 loop-place-preserved c =
-    let l = next-left _ c.args.file.now c.file.block c.loop-place.place _ _ _ _ c.loop-place-test.true c.loop-place.invariant.1 in
+    let l = next-left _ c.args.file.now c.file.block c.loop-place.place _ _ _ _ (omega arith) c.loop-place.invariant.1 in
     let marked-so = c.is_marked.ensures ∙ marked-later _ _ _ _ l.behind _ c.requires.marks_superseded in
-    (omega arith, left_step _ _ _ _ _ _ _ _ l _ marked-so _ (added-so (goal.at.loop-place-preserved c).After-add_record-run) c.if-run-ne0.false)
+    (omega arith, left_step _ _ _ _ _ _ _ _ l _ marked-so _ (added-so (goal.at.loop-place-preserved c).After-add_record-run) (no-stop-number c.add_record-run.result.stop (sym c.is_some.ensures ∙ c.if-is_some.false)))
 
 pub overflow_add-block : goal.overflow_add-block
 overflow_add-block c =
@@ -122,7 +123,7 @@ file-preserved c =
     let l = c.loop-place in (
       omega (arith, number-low file c.file.block within c.requires.file_value byte),
       left-on _ _ _ _ _ _ _ _ _ _ (left-rest _ _ _ _ _ _ _ _ (cut-begun file c.file.block within) c.file.invariant.1)
-          (left-rest _ _ _ _ _ _ _ _ (block-done file (cut file c.file.block) c.file.block l.place (count_of file c.file.block) c.loop-place-test.false) l.invariant.1),
+          (left-rest _ _ _ _ _ _ _ _ (block-done file (cut file c.file.block) c.file.block l.place (count_of file c.file.block) (omega arith)) l.invariant.1),
     )
 
 pub returns-after-file : goal.returns-after-file
@@ -131,16 +132,13 @@ returns-after-file c =
     let file = c.args.file.now in
     left-none _ _ _ _ f.index _ (left-rest _ _ _ _ _ _ _ _ (file-done file f.block (omega arith)) f.invariant.1)
 
-pub returns-then-run-ne0 : goal.returns-then-run-ne0
+pub returns-then-is_some : goal.returns-then-is_some
 unfolding unless_superseded
-returns-then-run-ne0 c =
-    let l = next-left _ c.args.file.now c.file.block c.loop-place.place _ _ _ _ c.loop-place-test.true c.loop-place.invariant.1 in
+returns-then-is_some c =
+    let l = next-left _ c.args.file.now c.file.block c.loop-place.place _ _ _ _ (omega arith) c.loop-place.invariant.1 in
     let marked-so = c.is_marked.ensures ∙ marked-later _ _ _ _ l.behind _ c.requires.marks_superseded in
     let begun = left-rest _ _ _ _ _ _ _ _ (cut-begun c.args.file.now c.file.block (omega arith)) c.file.invariant.1 in
-    left-stop _ _ _ _ _ _ _ _ (left-on _ _ _ _ _ _ _ _ _ _ begun l) _ marked-so _ (added-so (goal.at.returns-then-run-ne0 c).After-add_record-run) c.if-run-ne0.true
+    left-stop _ _ _ _ _ _ _ _ (left-on _ _ _ _ _ _ _ _ _ _ begun l) _ marked-so _ (added-so (goal.at.returns-then-is_some c).After-add_record-run) (stop-number c.add_record-run.result.stop (sym c.is_some.ensures ∙ c.if-is_some.true))
 
 pub overflow_add-place : goal.overflow_add-place
-overflow_add-place c = omega (arith, place-low c.args.file.now c.file.block (omega arith) c.requires.file_value c.loop-place.place c.loop-place-test.true)
-
-pub overflow_add-place-in-loop-place : goal.overflow_add-place-in-loop-place
-overflow_add-place-in-loop-place c = omega (arith, place-low c.args.file.now c.file.block (omega arith) c.requires.file_value c.loop-place.place c.loop-place-test.true)
+overflow_add-place c = omega (arith, place-low c.args.file.now c.file.block (omega arith) c.requires.file_value c.loop-place.place (omega arith))

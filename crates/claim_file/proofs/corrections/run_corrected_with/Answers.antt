@@ -1,13 +1,16 @@
 -- `run_corrected_with` meets its contract: the checks in their order, and then the records kept. Assumes nothing.
 use native.Mathlib.Omega.{arith}
-use Prim.Native.Nat.{◌≤◌}
-use mathlib.Core.Path.{◌≡◌, refl, sym, ap, ap₂, ◌∙◌}
+use Prim.Native.Nat.{ℕ, ◌≤◌}
+use mathlib.Core.Path.{◌≡◌, sym, ap, ap₂, ◌∙◌}
 use mathlib.Core.Bool.{true}
 use lib.ListN.{length}
-use Rattle.study.specs.declared.Answer.{Answer}
+use Rattle.basics.specs.Refused.{number_of, number_in}
+use Rattle.basics.proofs.Refused.{numbered-from-1}
+use Rattle.study.specs.Answers.{Answer, by_number}
 use Rattle.study.specs.Study.{opened}
 use Rattle.claim_file.specs.Corrections.{file_records, sound_all, last_ones, records_added}
 use Rattle.claim_file.specs.PreparedRuns.{adding_with}
+use Rattle.claim_file.proofs.Stops.{none-in}
 use Rattle.claim_file.proofs.Marking.{zeros-zero}
 use Rattle.claim_file.proofs.RunRecords.{window_answer, window_refused}
 use Rattle.claim_file.proofs.Struck.{corrected-added, corrected-refused}
@@ -28,10 +31,10 @@ all_so c =
 
 -- opening answers what its window does
 module _ (c : After-open-answer) where
-  answer-so : c.open-answer.result ≡ window_answer c.args.file.now
+  answer-so : by_number c.open-answer.result ≡ window_answer c.args.file.now
   answer-so = c.open-answer.ensures ∙ ap₂ opened c.date_at.ensures c.date_at-2.ensures
 
-  number-so : c.open-answer.result.refused ≡ (window_answer c.args.file.now).refused
+  number-so : number_in c.open-answer.result.refused ≡ (window_answer c.args.file.now).refused
   number-so = ap (λ (a : Answer). a.refused) answer-so
 
 pub returns-then-sound-eq0 : goal.returns-then-sound-eq0
@@ -48,31 +51,35 @@ returns-then-sound-file c =
     ∙ corrected-unsound (adding_with c.args.kind c.args.table.now) c.args.file.now c.sound_blocks-sound.result e
     (λ (f : AllSound c.args.file.now). absurd (omega (arith, e, c.if-sound-file.true, f.count_so, f.whole-so)))
 
-pub returns-then-answer-ne0 : goal.returns-then-answer-ne0
-returns-then-answer-ne0 c =
-    let at = goal.at.returns-then-answer-ne0 c in
-    ap window_refused (answer-so at.After-open-answer)
+pub returns-in-Some : goal.returns-in-Some
+returns-in-Some c =
+    let at = goal.at.returns-in-Some c in
+    let is-so : number_in c.open-answer.result.refused ≡ number_of c.in-Some.refusal = ap number_in c.in-Some.is in
+    c.refused.ensures
+    ∙ ap (λ (n : ℕ). record { study = c.open-answer.result.study; refused = n; block = 0; place = 0 }) (sym is-so)
+    ∙ ap window_refused (answer-so at.After-open-answer)
     ∙ sym
     (corrected-refused (adding_with c.args.kind c.args.table.now) c.args.file.now (all_so at.Else-sound-file)
-    (λ z. c.if-answer-ne0.true (number-so at.After-open-answer ∙ z)))
+    (λ z. absurd (omega (arith, number-so at.After-open-answer ∙ z, is-so, numbered-from-1 c.in-Some.refusal))))
 
 pub returns-then-record_count-gt-MOST_RECORDS : goal.returns-then-record_count-gt-MOST_RECORDS
 returns-then-record_count-gt-MOST_RECORDS c =
     let at = goal.at.returns-then-record_count-gt-MOST_RECORDS c in
-    ap (λ (a : Answer). record { study = a.study; refused = 14; block = 0; place = 0 }) (answer-so at.After-open-answer)
+    c.refused-then-record_count-gt-MOST_RECORDS.ensures
+    ∙ ap (λ (a : Answer). record { study = a.study; refused = 14; block = 0; place = 0 }) (answer-so at.After-open-answer)
     ∙ sym
-    (corrected-many (adding_with c.args.kind c.args.table.now) c.args.file.now (all_so at.Else-sound-file) (sym (number-so at.After-open-answer) ∙ c.if-answer-ne0.false)
+    (corrected-many (adding_with c.args.kind c.args.table.now) c.args.file.now (all_so at.Else-sound-file) (sym (number-so at.After-open-answer) ∙ none-in c.open-answer.result.refused c.in_default.not-Some)
     (omega (arith, c.record_count.ensures, c.if-record_count-gt-MOST_RECORDS.true)))
 
 pub mark_superseded-requires : goal.mark_superseded-requires
 mark_superseded-requires c =
     let few-so : length (file_records c.args.file.now) ≤ 60000 = omega (arith, c.record_count.ensures, c.if-record_count-gt-MOST_RECORDS.false) in
-    record { file_value = all_so (goal.at.mark_superseded-requires c).Else-sound-file; file_len_bound = few-so; marks_len = refl; all_zero = zeros-zero 7500 }
+    record { file_value = all_so (goal.at.mark_superseded-requires c).Else-sound-file; file_len_bound = few-so; all_zero = zeros-zero 7500 }
 
 pub add_kept-requires : goal.add_kept-requires
 add_kept-requires c =
     let few-so : length (file_records c.args.file.now) ≤ 60000 = omega (arith, c.record_count.ensures, c.if-record_count-gt-MOST_RECORDS.false) in
-    record { file_value = all_so (goal.at.add_kept-requires c).Else-sound-file; file_len_bound = few-so; marks_len = c.mark_superseded.auto.marks; marks_superseded = c.mark_superseded.ensures }
+    record { file_value = all_so (goal.at.add_kept-requires c).Else-sound-file; file_len_bound = few-so; marks_superseded = c.mark_superseded.ensures }
 
 pub returns : goal.returns
 returns c =
@@ -80,4 +87,4 @@ returns c =
     let few-so : length (file_records c.args.file.now) ≤ 60000 = omega (arith, c.record_count.ensures, c.if-record_count-gt-MOST_RECORDS.false) in
     c.add_kept.ensures
     ∙ ap (λ (a : Answer). records_added (adding_with c.args.kind c.args.table.now) a.study (last_ones (file_records c.args.file.now))) (answer-so at.After-open-answer)
-    ∙ sym (corrected-added (adding_with c.args.kind c.args.table.now) c.args.file.now (all_so at.Else-sound-file) (sym (number-so at.After-open-answer) ∙ c.if-answer-ne0.false) few-so)
+    ∙ sym (corrected-added (adding_with c.args.kind c.args.table.now) c.args.file.now (all_so at.Else-sound-file) (sym (number-so at.After-open-answer) ∙ none-in c.open-answer.result.refused c.in_default.not-Some) few-so)

@@ -10,15 +10,18 @@ use native.Mathlib.Omega.{arith}
 use lib.IntN.{ℤ}
 use lib.ListN.{length, get_or, take, drop, length-take, length-drop}
 use Rattle.std.proofs.Common.{get_or-take, get_or-drop}
+use Rattle.std.specs.Prelude.{is_some}
+use Rattle.basics.specs.Refused.{number_of, number_refused}
 use Rattle.basics.specs.Tables.{all_at_most}
+use Rattle.basics.proofs.Refused.{numbered-from-1}
 use Rattle.basics.proofs.Tables.{at-most-list}
 use Rattle.study.specs.declared.Study.{Study}
-use Rattle.study.specs.declared.Answer.{Answer}
+use Rattle.study.specs.Answers.{Answer}
 use Rattle.study.specs.Sums.{within}
 use Rattle.study.specs.PreparedAdding.{lent_study, room_for}
 use Rattle.study.proofs.EitherTable.{lent-kept, lent-refused, lent-taken, lent-room, lent-spare}
 use Rattle.study.proofs.LentSums.{spare-told}
-use Rattle.claim_file.specs.declared.FileRun.{FileRun}
+use Rattle.claim_file.specs.Runs.{FileRun}
 use Rattle.claim_file.specs.declared.LentRun.{LentRun}
 use Rattle.claim_file.specs.Bytes.{byte_at}
 use Rattle.claim_file.specs.Block.{block_claim, claim_count}
@@ -26,13 +29,14 @@ use Rattle.claim_file.specs.Run.{Adding, stops, claims_from, fed}
 use Rattle.claim_file.specs.PreparedRuns.{adding_with}
 use Rattle.claim_file.specs.LentRuns.{run_with}
 use Rattle.claim_file.specs.Private.{lent_stops, lent_goes_on}
+use Rattle.claim_file.proofs.Stops.{stop-number, no-stop-number, passed}
 use Rattle.claim_file.proofs.Runs.{Sound, sound, sound-due, part-is, rest-is, fed-refused, fed-none, stops-refused, claims-start, claims-on, claims-off, claims-end}
 use Rattle.claim_file.proofs.LentRuns.{begun-claims-sound, fed-stops, fed-claims, stops-with, goes-on-with}
 use Rattle.claim_file.proofs.run.feed_lent.Goals as goal
-use Rattle.claim_file.proofs.run.feed_lent.Goals.{Else-run-ne0, After-add_to-refused}
+use Rattle.claim_file.proofs.run.feed_lent.Goals.{Else-is_some-2, After-add_to}
 
 -- a block that was begun and not refused
-module _ (c : Else-run-ne0) where
+module _ (c : Else-is_some-2) where
   abbrev run : FileRun
   run = run_with c.file.run c.file.sums
 
@@ -50,7 +54,7 @@ module _ (c : Else-run-ne0) where
 
   free : begun.refused ≡ 0
   unfolding run_with
-  free = c.if-run-ne0.false
+  free = no-stop-number c.begin-run.result.stop (sym c.is_some-in-file.ensures ∙ c.if-is_some-2.false)
 
   sound-so : Sound c.begin-run.result.due part
   unfolding run_with
@@ -78,16 +82,19 @@ module _ (c : Else-run-ne0) where
   unfolding run_with
   left-so taken sums place e =
       let d = length-drop c.file.at c.args.bytes.now in
-      fed-claims run add rest part (part-is _ _ _ c.block_end-end.ensures) c.file.invariant.1 (omega (arith, c.file-test.true)) begun c.begin-run.ensures free
+      fed-claims run add rest part (part-is _ _ _ c.block_end-end.ensures) (no-stop-number c.file.run.stop c.file.invariant.1) (omega (arith, c.file-test.true)) begun c.begin-run.ensures free
       ∙ ap (λ (r : FileRun). fed r add (drop 512 rest)) e
 
 -- a claim that was handed to the sums: the study so far, the answer, and the sums afterwards
-module _ (c : After-add_to-refused) where
+module _ (c : After-add_to) where
   abbrev so_far : Study
   so_far = lent_study c.begin-run.result.window c.loop-place.taken c.loop-place.sums
 
   abbrev after : List ℤ
-  after = c.add_to-refused.new.sums
+  after = c.add_to.new.sums
+
+  abbrev number : ℕ
+  number = number_refused c.add_to.result
 
   -- what adding the block's claim answers
   abbrev added : Answer
@@ -97,97 +104,102 @@ module _ (c : After-add_to-refused) where
   looked-so : c.has_still_room-room.result ≡ within c.loop-place.sums
   looked-so = spare-told (15 - c.loop-place.place) c.loop-place.sums _ _ c.loop-place.invariant.2 c.has_still_room-room.ensures
 
-  room-so : c.add_to-refused.result ≡ 0 → c.loop-place.taken < 500000
-  room-so h = lent-room _ so_far c.claim_at-claim.result _ _ looked-so _ after c.add_to-refused.ensures.value c.add_to-refused.ensures.sums_after h
+  room-so : number ≡ 0 → c.loop-place.taken < 500000
+  room-so h = lent-room _ so_far c.claim_at-claim.result _ _ looked-so _ after c.add_to.ensures.value c.add_to.ensures.sums_after h
 
-  kept-so : (c.add_to-refused.result ≡ 0 → ⊥) → after ≡ c.loop-place.sums
-  kept-so h = lent-kept _ so_far c.claim_at-claim.result _ _ looked-so _ after c.add_to-refused.ensures.value c.add_to-refused.ensures.sums_after h
+  kept-so : (number ≡ 0 → ⊥) → after ≡ c.loop-place.sums
+  kept-so h = lent-kept _ so_far c.claim_at-claim.result _ _ looked-so _ after c.add_to.ensures.value c.add_to.ensures.sums_after h
 
   spare-so : c.loop-place.place < 15 → c.has_room_for_block-spare.result ≡ true → room_for (15 - (c.loop-place.place + 1)) after ≡ true
   spare-so low h =
       let left : 15 - c.loop-place.place ≡ suc (15 - (c.loop-place.place + 1)) = omega (arith, low) in
       let table-small : all_at_most 4294967295 c.args.table.now ≡ true = at-most-list 4294967295 c.args.table.now (λ k _. omega (arith, c.type_inv.table k)) in
-      lent-spare _ so_far c.claim_at-claim.result _ _ looked-so _ after c.add_to-refused.ensures.value c.add_to-refused.ensures.sums_after
+      lent-spare _ so_far c.claim_at-claim.result _ _ looked-so _ after c.add_to.ensures.value c.add_to.ensures.sums_after
       (15 - (c.loop-place.place + 1)) (omega arith) table-small (rw left at (c.loop-place.invariant.2 h))
 
-  taken-so : c.add_to-refused.result ≡ 0 → record { refused = 0; study = lent_study so_far.window (so_far.taken + 1) after } ≡ added
+  taken-so : number ≡ 0 → record { refused = 0; study = lent_study so_far.window (so_far.taken + 1) after } ≡ added
   taken-so h =
-      lent-taken _ so_far c.claim_at-claim.result _ _ looked-so _ after c.add_to-refused.ensures.value c.add_to-refused.ensures.sums_after h
+      lent-taken _ so_far c.claim_at-claim.result _ _ looked-so _ after c.add_to.ensures.value c.add_to.ensures.sums_after h
       ∙ ap (adding_with c.args.kind c.args.table.now so_far) c.claim_at-claim.ensures
 
-  refused-so : (c.add_to-refused.result ≡ 0 → ⊥) → record { refused = c.add_to-refused.result; study = so_far } ≡ added
+  refused-so : (number ≡ 0 → ⊥) → record { refused = number; study = so_far } ≡ added
   refused-so h =
-      lent-refused _ so_far c.claim_at-claim.result _ _ looked-so _ after c.add_to-refused.ensures.value c.add_to-refused.ensures.sums_after h
+      lent-refused _ so_far c.claim_at-claim.result _ _ looked-so _ after c.add_to.ensures.value c.add_to.ensures.sums_after h
       ∙ ap (adding_with c.args.kind c.args.table.now so_far) c.claim_at-claim.ensures
 
-pub returns-then-from-ne0 : goal.returns-then-from-ne0
+pub returns-then-is_some : goal.returns-then-is_some
 unfolding run_with
-returns-then-from-ne0 c = sym (fed-refused (run_with c.args.from c.args.sums.now) (adding_with c.args.kind c.args.table.now) c.args.bytes.now c.if-from-ne0.true)
+returns-then-is_some c =
+    let stopped-so = stop-number c.args.from.stop (sym c.is_some.ensures ∙ c.if-is_some.true) in
+    sym (fed-refused (run_with c.args.from c.args.sums.now) (adding_with c.args.kind c.args.table.now) c.args.bytes.now stopped-so)
 
 pub file-init : goal.file-init
-file-init c = (omega arith, c.if-from-ne0.false, refl)
+file-init c = (omega arith, sym c.is_some.ensures ∙ c.if-is_some.false, refl)
 
 pub begin-run-requires : goal.begin-run-requires
 begin-run-requires c = c.file.invariant.1
 
-pub returns-then-run-ne0 : goal.returns-then-run-ne0
+pub returns-then-is_some-2 : goal.returns-then-is_some-2
 unfolding run_with
-returns-then-run-ne0 c =
+returns-then-is_some-2 c =
     let rest : List ℕ = drop c.file.at c.args.bytes.now in
     let some_left : 0 < length rest = let d = length-drop c.file.at c.args.bytes.now in omega (arith, c.file-test.true) in
     sym
     (c.file.invariant.2
-    ∙ fed-stops (run_with c.file.run c.file.sums) (adding_with c.args.kind c.args.table.now) rest _ (part-is _ _ _ c.block_end-end.ensures) c.file.invariant.1 some_left
-    (run_with c.begin-run.result c.begin-run.new.sums) c.begin-run.ensures c.if-run-ne0.true)
+    ∙ fed-stops (run_with c.file.run c.file.sums) (adding_with c.args.kind c.args.table.now) rest _ (part-is _ _ _ c.block_end-end.ensures) (no-stop-number c.file.run.stop c.file.invariant.1) some_left
+    (run_with c.begin-run.result c.begin-run.new.sums) c.begin-run.ensures (stop-number c.begin-run.result.stop (sym c.is_some-in-file.ensures ∙ c.if-is_some-2.true)))
 
 pub bounds-part-2 : goal.bounds-part-2
-bounds-part-2 c = let s = (sound-so (goal.at.bounds-part-2 c).Else-run-ne0).length-so in omega arith
+bounds-part-2 c = let s = (sound-so (goal.at.bounds-part-2 c).Else-is_some-2).length-so in omega arith
 
 pub loop-place-init : goal.loop-place-init
 loop-place-init c = (refl, omega arith, (λ h. sym c.has_room_for_block-spare.ensures ∙ h), claims-start _ _ _ _ _)
 
 pub claim_at-claim-requires : goal.claim_at-claim-requires
 claim_at-claim-requires c =
-    let b = (goal.at.claim_at-claim-requires c).Else-run-ne0 in
-    record { bytes_len = (sound-so b).length-so; place_bound = place-low b c.loop-place.place c.loop-place-test.true }
+    let b = (goal.at.claim_at-claim-requires c).Else-is_some-2 in
+    record { bytes_len = (sound-so b).length-so; place_bound = place-low b c.loop-place.place (omega arith) }
 
 pub overflow_add-place : goal.overflow_add-place
-overflow_add-place c = omega (arith, place-low (goal.at.overflow_add-place c).Else-run-ne0 c.loop-place.place c.loop-place-test.true)
+overflow_add-place c = omega (arith, place-low (goal.at.overflow_add-place c).Else-is_some-2 c.loop-place.place (omega arith))
 
 pub overflow_add-taken : goal.overflow_add-taken
-overflow_add-taken c = omega (arith, room-so (goal.at.overflow_add-taken c).After-add_to-refused c.if-refused-ne0.false)
+overflow_add-taken c = omega (arith, room-so (goal.at.overflow_add-taken c).After-add_to (passed c.add_to.result c.in_default.not-Err))
 
 pub loop-place-preserved : goal.loop-place-preserved
 unfolding claim_count byte_at
 loop-place-preserved c =
-    let b = (goal.at.loop-place-preserved c).Else-run-ne0 in
-    let m = (goal.at.loop-place-preserved c).After-add_to-refused in (
+    let b = (goal.at.loop-place-preserved c).Else-is_some-2 in
+    let m = (goal.at.loop-place-preserved c).After-add_to in (
       c.loop-place.invariant.0,
-      omega (arith, c.loop-place-test.true),
-      spare-so m (place-low b c.loop-place.place c.loop-place-test.true),
-      c.loop-place.invariant.3 ∙ claims-on _ (so_far m) _ _ _ _ c.loop-place-test.true _ (taken-so m c.if-refused-ne0.false) refl,
+      omega arith,
+      spare-so m (place-low b c.loop-place.place (omega arith)),
+      c.loop-place.invariant.3 ∙ claims-on _ (so_far m) _ _ _ _ (omega arith) _ (taken-so m (passed c.add_to.result c.in_default.not-Err)) refl,
     )
 
-pub returns-then-refused-ne0 : goal.returns-then-refused-ne0
+pub returns-in-Err : goal.returns-in-Err
 unfolding run_with claim_count byte_at
-returns-then-refused-ne0 c =
-    let b = (goal.at.returns-then-refused-ne0 c).Else-run-ne0 in
-    let m = (goal.at.returns-then-refused-ne0 c).After-add_to-refused in
+returns-in-Err c =
+    let b = (goal.at.returns-in-Err c).Else-is_some-2 in
+    let m = (goal.at.returns-in-Err c).After-add_to in
     let l = c.loop-place in
-    let n = c.add_to-refused.result in
-    let h = c.if-refused-ne0.true in
-    ap (λ (r : LentRun). run_with r (after m)) (c.stopped-run.ensures ∙ ap (λ (r : LentRun). lent_stops r l.taken n (l.place + 1)) l.invariant.0)
-    ∙ stops-with c.begin-run.result c.begin-run.new.sums (after m) l.taken n (l.place + 1)
+    let refusal = c.in-Err.refusal in
+    let n = number_of refusal in
+    let is-so : number m ≡ n = ap number_refused c.in-Err.is in
+    let h : number m ≡ 0 → ⊥ = λ e. absurd (omega (arith, e, is-so, numbered-from-1 refusal)) in
+    ap (λ (r : LentRun). run_with r (after m)) (c.stopped-run.ensures ∙ ap (λ (r : LentRun). lent_stops r l.taken refusal (l.place + 1)) l.invariant.0)
+    ∙ stops-with c.begin-run.result c.begin-run.new.sums (after m) l.taken refusal (l.place + 1)
     ∙ ap (λ (x : List ℤ). stops (begun b) (lent_study c.begin-run.result.window l.taken x) n (l.place + 1)) (kept-so m h)
+    ∙ ap (λ (k : ℕ). stops (begun b) (lent_study c.begin-run.result.window l.taken l.sums) k (l.place + 1)) (sym is-so)
     ∙ sym
     (c.file.invariant.2
     ∙ left-so b l.taken l.sums l.place l.invariant.3
-    ∙ ap (λ (r : FileRun). fed r (add b) (drop 512 (rest b))) (claims-off _ (so_far m) _ _ _ _ c.loop-place-test.true _ (refused-so m h) h)
+    ∙ ap (λ (r : FileRun). fed r (add b) (drop 512 (rest b))) (claims-off _ (so_far m) _ _ _ _ (omega arith) _ (refused-so m h) h)
     ∙ fed-refused _ _ _ (stops-refused _ _ _ _ h))
 
 pub continued-run-requires : goal.continued-run-requires
 continued-run-requires c =
-    rw c.loop-place.invariant.0 (due-low (goal.at.continued-run-requires c).Else-run-ne0)
+    rw c.loop-place.invariant.0 (due-low (goal.at.continued-run-requires c).Else-is_some-2)
 
 pub file-smaller : goal.file-smaller
 file-smaller c = omega (arith, c.block_end-end.ensures, c.file-test.true)
@@ -195,16 +207,16 @@ file-smaller c = omega (arith, c.block_end-end.ensures, c.file-test.true)
 pub file-preserved : goal.file-preserved
 unfolding run_with claim_count byte_at lent_goes_on
 file-preserved c =
-    let b = (goal.at.file-preserved c).Else-run-ne0 in
+    let b = (goal.at.file-preserved c).Else-is_some-2 in
     let l = c.loop-place in
     let e = c.block_end-end.ensures in
     let on : c.continued-run.result ≡ lent_goes_on c.begin-run.result l.taken = c.continued-run.ensures ∙ ap (λ (r : LentRun). lent_goes_on r l.taken) l.invariant.0 in (
       omega (arith, e),
-      ap (λ (r : LentRun). r.refused) on,
+      ap (λ (r : LentRun). is_some r.stop) on,
       c.file.invariant.2
           ∙ left-so b l.taken l.sums l.place l.invariant.3
           ∙ ap (λ (r : FileRun). fed r (add b) (drop 512 (rest b)))
-          (claims-end _ (lent_study c.begin-run.result.window l.taken l.sums) _ _ _ _ c.loop-place-test.false
+          (claims-end _ (lent_study c.begin-run.result.window l.taken l.sums) _ _ _ _ (omega arith)
           ∙ sym (ap (λ (r : LentRun). run_with r l.sums) on ∙ goes-on-with c.begin-run.result c.begin-run.new.sums l.sums l.taken))
           ∙ ap (fed (run_with c.continued-run.result l.sums) (add b)) (rest-is c.args.bytes.now c.file.at c.block_end-end.result c.file.invariant.0 e),
     )

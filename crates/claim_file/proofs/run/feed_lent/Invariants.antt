@@ -1,6 +1,7 @@
 use Prim.Native.Nat.{◌-◌, ◌≤◌}
 use mathlib.Core.Path.{◌≡◌}
 use mathlib.Core.Bool.{true}
+use Rattle.std.specs.Prelude.{IsNone}
 use lib.ListN.{length, drop}
 use Rattle.study.specs.PreparedAdding.{lent_study, room_for}
 use Rattle.claim_file.specs.Run.{claims_from, fed}
@@ -19,7 +20,7 @@ decreases-loop-place l = l.count - l.place
 
 abbrev pub invariant-file : goal.invariant-file
 invariant-file l =
-    (l.at ≤ length l.bytes) × (l.run.refused ≡ 0)
+    (l.at ≤ length l.bytes) × IsNone l.run.stop
     × (fed (run_with l.initial.run l.initial.sums) (adding_with l.kind l.table) l.bytes ≡ fed (run_with l.run l.sums) (adding_with l.kind l.table) (drop l.at l.bytes))
 
 abbrev pub decreases-file : goal.decreases-file

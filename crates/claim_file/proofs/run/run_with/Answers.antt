@@ -1,6 +1,6 @@
 -- `run_with` meets its contract. Assumes nothing.
 use mathlib.Core.Path.{ap, ◌∙◌}
-use Rattle.claim_file.specs.declared.FileRun.{FileRun}
+use Rattle.claim_file.specs.Runs.{FileRun}
 use Rattle.claim_file.specs.Run.{fed, ended, file_run_with}
 use Rattle.claim_file.specs.PreparedRuns.{adding_with}
 use Rattle.claim_file.proofs.run.run_with.Goals as goal
