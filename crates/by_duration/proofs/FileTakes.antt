@@ -22,7 +22,7 @@ use Rattle.study.specs.Study.{fresh, sum_over, has_room, room_check}
 use Rattle.study.specs.PreparedAdding.{share_with, add_check_with, added_with}
 use Rattle.study.proofs.SumOver.{All}
 use Rattle.study.proofs.Algebra.{each_at, none-at}
-use Rattle.claim_file.specs.declared.FileRun.{FileRun}
+use Rattle.claim_file.specs.Runs.{FileRun}
 use Rattle.claim_file.specs.Run.{started, stops, fed, ended, file_run_with}
 use Rattle.claim_file.specs.Files.{file_claims}
 use Rattle.claim_file.proofs.Runs.{fed-none}

@@ -22,7 +22,7 @@ use Rattle.study.specs.Sums.{column_at, is_count}
 use Rattle.study.specs.Study.{sum_over, study_of}
 use Rattle.study.specs.Private.{column_rate}
 use Rattle.study.proofs.SumOver.{All}
-use Rattle.claim_file.specs.declared.FileRun.{FileRun}
+use Rattle.claim_file.specs.Runs.{FileRun}
 use Rattle.claim_file.specs.declared.WindowDates.{WindowDates}
 use Rattle.claim_file.specs.Bytes.{byte_at}
 use Rattle.claim_file.specs.Block.{claim_count, sealed, window_bytes}

@@ -23,7 +23,7 @@ use Rattle.study.specs.Sums.{column_at, is_count}
 use Rattle.study.specs.Study.{sum_over}
 use Rattle.study.specs.Private.{column_rate}
 use Rattle.study.proofs.SumOver.{All}
-use Rattle.claim_file.specs.declared.FileRun.{FileRun}
+use Rattle.claim_file.specs.Runs.{FileRun}
 use Rattle.claim_file.proofs.SameRuns.{same_runs}
 use Rattle.by_duration.specs.Rows.{row_at, row_figure, claim_figure, row_sum, rows_over}
 use Rattle.by_duration.specs.Wrapped.{as64}

@@ -11,7 +11,6 @@ use Rattle.calendar.specs.Calendar.{last_day_number}
 use Rattle.claim_months.specs.declared.Claim.{Claim}
 use Rattle.claim_months.specs.declared.Span.{Span}
 use Rattle.claim_months.specs.Exposure.{month_records, weighted, closings}
-use Rattle.claim_months.specs.declared.MaybeSpan.TheVariants.{Spanned, Refused}
 use Rattle.claim_months.specs.declared.Window.{Window}
 use Rattle.claim_months.specs.Span.{span_of, span_thirtieths, span_weighted, span_closing, exposure_check, span_in}
 use Rattle.claim_months.proofs.SpanAnswers.{exposed, spanned, span-refused}
@@ -26,6 +25,7 @@ use Rattle.by_duration.specs.Rows.{row_of, in_row, row_weight, row_figure, claim
 use Rattle.by_duration.specs.Private.{month_amount, span_months, span_closings, has_cell, span_figure, checked_figure}
 use Rattle.by_duration.proofs.Figures.{figure_in, row-figure}
 use Rattle.by_duration.proofs.Raised.{one_amount}
+use Rattle.std.specs.Prelude.{Err, Ok}
 
 pub once : (x : ℤ) → pos 1 *ℤ x ≡ x
 once x = suc_ℤ-*ℤ (pos 0) x ∙ ap (λ (z : ℤ). z +ℤ x) (zero-*ℤ x) ∙ +ℤ_idl x
@@ -154,7 +154,7 @@ module _ (kind : Kind) (n : ℕ) (table : List ℕ) (cell : ℕ) (sp : Span) whe
 
 -- a claim whose span was answered has its figures, one that was refused none
 module _ (kind : Kind) (n : ℕ) (w : Window) (table : List ℕ) (c : Claim) where
-  pub span-checked : (sp : Span) → Spanned sp ≡ span_in c w.first.0 w.last.0 → (r column : ℕ)
+  pub span-checked : (sp : Span) → Ok sp ≡ span_in c w.first.0 w.last.0 → (r column : ℕ)
       → span_figure kind n table c.cell sp r column ≡ checked_figure kind n w table c r column
   unfolding span_figure checked_figure claim_figure
   span-checked sp m r column =
@@ -163,7 +163,7 @@ module _ (kind : Kind) (n : ℕ) (w : Window) (table : List ℕ) (c : Claim) whe
       rw (eq-eqb (exposure_check c w.first.0 w.last.0) 0 x.0)
       (ap (λ (z : ℤ). pick (has_cell table c.cell) z (pos 0)) (span-figure _ _ n c y.0 w.first.0 w.last.0 y.1 sp x.1 r column))
 
-  pub refused-checked : (number : ℕ) → Refused number ≡ span_in c w.first.0 w.last.0 → (r column : ℕ) → checked_figure kind n w table c r column ≡ pos 0
+  pub refused-checked : (number : ℕ) → Err number ≡ span_in c w.first.0 w.last.0 → (r column : ℕ) → checked_figure kind n w table c r column ≡ pos 0
   unfolding checked_figure
   refused-checked number m r column =
       rw (ne_eqb (exposure_check c w.first.0 w.last.0) 0 (span-refused c w.first.0 w.last.0 number m).0) refl

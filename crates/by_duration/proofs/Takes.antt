@@ -7,21 +7,21 @@ use borrow.Author.Tests.{eqb-false}
 use Rattle.basics.specs.Pick.{pick}
 use Rattle.basics.proofs.Tests.{tests, by}
 use Rattle.claim_months.specs.declared.Claim.{Claim}
-use Rattle.claim_months.specs.declared.MaybeWindow.{MaybeWindow}
-use Rattle.claim_months.specs.declared.MaybeWindow.TheVariants.{Known, Refused}
 use Rattle.claim_months.specs.Windows.{window_in}
 use Rattle.rates.specs.declared.Kind.{Kind}
 use Rattle.study.specs.declared.Study.{Study}
-use Rattle.study.specs.declared.Answer.{Answer}
+use Rattle.study.specs.Answers.{Answer}
 use Rattle.study.specs.Study.{fresh, opened_with, opened}
 use Rattle.study.specs.PreparedAdding.{add_check_with, added_with}
-use Rattle.claim_file.specs.declared.FileRun.{FileRun}
+use Rattle.claim_file.specs.Runs.{FileRun}
 use Rattle.claim_file.specs.Bytes.{date_from}
 use Rattle.claim_file.specs.Block.{block_claim, claim_count, block_sound}
 use Rattle.claim_file.specs.Run.{going_on, stops, claims_from, begun, block_fed, fed}
 use Rattle.claim_file.specs.PreparedRuns.{adding_with}
 use Rattle.claim_file.specs.Files.{claims_of_block, claims_of_blocks, file_claims}
 use Rattle.claim_file.proofs.Runs.{sound, fed-refused, fed-none, fed-turn, stops-refused}
+use Rattle.claim_months.specs.declared.Window.{Window}
+use Rattle.std.specs.Prelude.{Err, Ok, Result}
 
 -- ---- the claims of a file
 
@@ -169,10 +169,10 @@ module _ (kind : Kind) (table : List ℕ) where
       (λ q. none-took r block (stops r s 11 0) refl (stops-refused r s 11 0 (λ (z : ◌≡◌ {A = ℕ} 11 0). absurd (omega tests)))))
 
   -- opening gives a fresh study
-  opened-fresh : (m : MaybeWindow) → (opened_with m).study ≡ fresh (opened_with m).study.window
+  opened-fresh : (m : Result Window ℕ) → (opened_with m).study ≡ fresh (opened_with m).study.window
   unfolding opened_with fresh
-  opened-fresh (Known w) = refl
-  opened-fresh (Refused n) = refl
+  opened-fresh (Ok w) = refl
+  opened-fresh (Err n) = refl
 
   fresh-taken : (s : Study) → s ≡ fresh s.window → s.taken ≡ 0
   unfolding fresh

@@ -1,7 +1,6 @@
 -- `rows::add_month` meets its contract: three numbers of its row are raised, and no other.
 -- Assumes nothing.
-use mir.Syntax.{w64}
-use Rattle.std.proofs.Common.{length, ◌∙◌, arith, to_z-of_z, to_z, of_z}
+use Rattle.std.proofs.Common.{◌∙◌, arith, rules, to_z-of_z, w64, SFits}
 use Rattle.by_duration.proofs.Raised.{month-raised}
 use Rattle.by_duration.proofs.rows.add_month.Goals as goal
 
@@ -19,7 +18,10 @@ shape_of-rows c = c.raise-3.auto.rows ∙ c.raise-2.auto.rows ∙ c.raise.auto.r
 
 pub returns : goal.returns
 returns c =
-    month-raised c.args.rows.now c.args.row c.args.thirtieths c.args.recoveries c.args.deaths c.requires.fit c.requires.le_row c.requires.row_in_bounds
+    let expected = c.args.expected in
+    let recoveries : SFits w64 expected.recoveries = search rules in
+    let deaths : SFits w64 expected.deaths = search rules in
+    month-raised c.args.rows.now c.args.row c.args.thirtieths expected.recoveries expected.deaths c.requires.fit c.requires.le_row c.requires.row_in_bounds
     c.raise.new.rows c.raise-2.new.rows c.raise-3.new.rows
-    (rw (to_z-of_z {w = w64} c.ranges.thirtieths) at c.raise.ensures) (rw (to_z-of_z {w = w64} c.ranges.recoveries) at c.raise-2.ensures)
-    (rw (to_z-of_z {w = w64} c.ranges.deaths) at c.raise-3.ensures)
+    (rw (to_z-of_z {w = w64} c.ranges.thirtieths) at c.raise.ensures) (rw (to_z-of_z {w = w64} recoveries) at c.raise-2.ensures)
+    (rw (to_z-of_z {w = w64} deaths) at c.raise-3.ensures)
