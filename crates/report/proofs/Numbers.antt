@@ -1,15 +1,15 @@
 -- A number's digits: their number is the fewest that hold it, and at most 20 where the number has 64 bits, 19 where it is a sum's size, 10 where it has 32 bits.
 -- Assumes nothing.
-use Prim.Native.Nat.{ℕ, zero, suc, ◌+◌, ◌-◌, ◌*◌, ◌/◌, ◌^◌, ◌≤◌, ◌<◌}
-use mathlib.Core.Path.{◌≡◌, refl, sym, ap, ◌∙◌}
-use mathlib.Core.List.{List, [], ◌∷◌, ◌++◌}
+use Prim.Native.Nat.{ℕ, zero, suc, ◌-◌, ◌/◌, ◌^◌, ◌≤◌, ◌<◌}
+use mathlib.Core.Path.{◌≡◌, refl, ap, ◌∙◌}
+use mathlib.Core.List.{List, [], ◌∷◌}
 use native.Mathlib.Omega.{arith}
 use native.Mathlib.Numerals.{unary_clauses}
 use native.Mathlib.Nat.{pow-succ', one-le-pow}
 use lib.ListN.{length, length-append}
 use lib.Dec.{ltb}
 use lib.IntN.{negsuc}
-use Rattle.report.specs.Digits.{hex_digit_ascii, last_digits, IsDigitCount}
+use Rattle.report.specs.Digits.{last_digits, IsDigitCount}
 use Rattle.basics.specs.Pick.{pick}
 use Rattle.basics.proofs.Tests.{tests, by, is-pick}
 use Rattle.report.specs.Text.{places_up_to, places, number_text, signed_text}

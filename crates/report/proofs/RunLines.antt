@@ -2,12 +2,21 @@
 -- Assumes nothing.
 use Prim.Native.Nat.{ℕ, ◌≤◌, ◌<◌}
 use mathlib.Core.Path.{◌≡◌, refl, sym, ap, ◌∙◌}
-use mathlib.Core.Bool.{Bool, true, false}
-use mathlib.Core.List.{List, [], ◌∷◌, ◌++◌, append-nil}
+use mathlib.Core.Bool.{Bool, false}
+use mathlib.Core.List.{List, [], ◌++◌, append-nil}
 use lib.Dec.{leb, eqb}
+use lib.IntN.{ℤ}
+use native.Mathlib.Omega.{arith}
+use borrow.Author.Tests.{le-leb, lt-leb, ne_eqb}
+use Rattle.std.specs.Prelude.{Option, Some, None}
 use Rattle.basics.specs.Pick.{pick}
 use Rattle.basics.proofs.Tests.{by}
-use Rattle.claim_file.specs.declared.FileRun.{FileRun}
+use Rattle.claim_file.specs.LentRuns.{run_with}
+use Rattle.claim_file.specs.declared.LentRun.{LentRun}
+use Rattle.claim_file.specs.declared.Stop.{Stop}
+use Rattle.basics.specs.Refused.{number_of}
+use Rattle.basics.specs.declared.refusal.Refusal.{Refusal}
+use Rattle.basics.proofs.Refused.{numbered-from-1}
 use Rattle.report.specs.Text.{table_head, table_text, group_line, refusal_line, run_text, run_line, RunLines}
 
 pub run-lines : RunLines
@@ -19,24 +28,33 @@ run-lines r =
     (λ t. pick t (table_text r.study.sums) (refusal_line r.refused r.block r.place) ≡ line t 0 ++ (line t 1 ++ (line t 2 ++ (line t 3 ++ (line t 4 ++ line t 5)))))
     (λ q. refl) (λ q. sym (append-nil (refusal_line r.refused r.block r.place)))
 
--- which line a run has at a place, as its tests come out
-module _ (r : FileRun) (k : ℕ) where
-  pub refused-line : eqb r.refused 0 ≡ false → eqb k 0 ≡ true → refusal_line r.refused r.block r.place ≡ run_line r k
-  unfolding run_line
-  refused-line p q = rw (p, q) refl
+-- a refusal's number is none of a run that goes on
+refused : (r : Refusal) → eqb (number_of r) 0 ≡ false
+refused r = ne_eqb (number_of r) 0 (λ e. omega (arith, e, numbered-from-1 r))
 
-  pub refused_none : eqb r.refused 0 ≡ false → eqb k 0 ≡ false → [] ≡ run_line r k
-  unfolding run_line
-  refused_none p q = rw (p, q) refl
+-- which line a run has at a place: of one that stopped, and of one that went on
+module _ (run : LentRun) (sums : List ℤ) (k : ℕ) where
+  abbrev line : Option Stop → List ℕ
+  line stop = run_line (run_with (record run { stop = stop }) sums) k
 
-  pub head-line : eqb r.refused 0 ≡ true → eqb k 0 ≡ true → table_head ≡ run_line r k
-  unfolding run_line
-  head-line p q = rw (p, q) refl
+  module _ (s : Stop) (e : run.stop ≡ Some s) where
+    pub stopped-line : (n : ℕ) → n ≡ number_of s.refusal → k ≡ 0 → refusal_line n s.block s.place ≡ run_line (run_with run sums) k
+    unfolding run_line run_with
+    stopped-line n p z = ap (λ (m : ℕ). refusal_line m s.block s.place) p ∙ sym (ap line e ∙ rw (z, refused s.refusal) refl)
 
-  pub past-line : eqb r.refused 0 ≡ true → eqb k 0 ≡ false → leb k 5 ≡ false → [] ≡ run_line r k
-  unfolding run_line
-  past-line p q s = rw (p, q, s) refl
+    pub stopped_none : (k ≡ 0 → ⊥) → [] ≡ run_line (run_with run sums) k
+    unfolding run_line run_with
+    stopped_none z = sym (ap line e ∙ rw (refused s.refusal, ne_eqb k 0 z) refl)
 
-  pub group-line : eqb r.refused 0 ≡ true → eqb k 0 ≡ false → leb k 5 ≡ true → group_line r.study.sums k ≡ run_line r k
-  unfolding run_line
-  group-line p q s = rw (p, q, s) refl
+  module _ (e : run.stop ≡ None) where
+    pub head-line : k ≡ 0 → table_head ≡ run_line (run_with run sums) k
+    unfolding run_line run_with
+    head-line z = sym (ap line e ∙ rw z refl)
+
+    pub past-line : 5 < k → [] ≡ run_line (run_with run sums) k
+    unfolding run_line run_with
+    past-line z = sym (ap line e ∙ rw (ne_eqb k 0 (λ q. omega arith), lt-leb k 5 z) refl)
+
+    pub group-line : (k ≡ 0 → ⊥) → k ≤ 5 → group_line sums k ≡ run_line (run_with run sums) k
+    unfolding run_line run_with
+    group-line z h = sym (ap line e ∙ rw (ne_eqb k 0 z, le-leb k 5 h) refl)

@@ -1,17 +1,17 @@
 -- The lines of a run put one behind another are its text.
 -- Assumes nothing.
 use Prim.Native.Nat.{ℕ, zero, suc, ◌+◌, ◌-◌, ◌*◌, ◌≤◌}
-use mathlib.Core.Path.{◌≡◌, refl, sym, ap, ◌∙◌}
+use mathlib.Core.Path.{◌≡◌, sym, ap, ◌∙◌}
 use mathlib.Core.Bool.{Bool}
-use mathlib.Core.List.{List, [], ◌∷◌, ◌++◌, append_assoc}
+use mathlib.Core.List.{List, [], ◌++◌, append_assoc}
 use native.Mathlib.Omega.{arith}
 use native.Mathlib.Numerals.{add-one}
 use lib.ListN.{length, take, drop, take-append-drop, length-drop}
-use lib.Seq.{sets, sets-eq, length-take-le, drop-append-le, drop-drop}
+use lib.Seq.{sets-eq, length-take-le, drop-append-le, drop-drop}
 use borrow.Rule.Slice.PartMut.{mid_of, put_mid, mid_len}
 use borrow.Author.Tests.{le-ltb}
 use Rattle.basics.specs.Pick.{pick}
-use Rattle.claim_file.specs.declared.FileRun.{FileRun}
+use Rattle.claim_file.specs.Runs.{FileRun}
 use Rattle.report.specs.Text.{run_text, run_line, RunLines, line_answer, line_after}
 use Rattle.report.specs.Private.{Put}
 use Rattle.report.proofs.Texts.{and_then, shorter, nothing}

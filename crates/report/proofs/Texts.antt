@@ -1,11 +1,12 @@
 -- Texts put one behind another are one text put.
 -- Assumes nothing.
-use Prim.Native.Nat.{ℕ, ◌+◌, ◌≤◌}
-use mathlib.Core.Path.{◌≡◌, refl, ap, ◌∙◌}
-use mathlib.Core.List.{List, [], ◌∷◌, ◌++◌}
+use Prim.Native.Nat.{ℕ, ◌+◌, ◌-◌, ◌≤◌}
+use mathlib.Core.Path.{◌≡◌, refl, sym, ap, ◌∙◌}
+use mathlib.Core.List.{List, [], ◌++◌, append_assoc}
 use native.Mathlib.Omega.{arith}
-use lib.ListN.{length, length-append}
-use lib.Seq.{sets, length-sets}
+use lib.ListN.{length, take, drop, length-append}
+use lib.Seq.{sets, sets-eq, length-sets, drop-drop}
+use borrow.Rule.Slice.PartMut.{put_mid}
 use Rattle.basics.proofs.Stores.{run}
 use Rattle.report.specs.Private.{Put}
 
@@ -28,6 +29,19 @@ module _ {l a : List ℕ} {at : ℕ} where
   -- a text of at most so many bytes
   pub shorter : {xs : List ℕ} {r m : ℕ} (n : ℕ) → Put m l at xs a r → length xs ≤ n → Put n l at xs a r
   shorter n p h = record { stored = p.stored; behind = p.behind; within = h }
+
+-- a text copied over a part of a list
+pub copied : (l ys text : List ℕ) (at : ℕ) → at + length text ≤ length l → ys ≡ text
+    → Put (length text) l at text (put_mid at (at + length text - at) l ys) (at + length text)
+copied l ys text at h e =
+    let w : at + length text - at ≡ length text = omega arith in
+    record {
+      stored =
+          (λ i. take at l ++ (e i ++ drop (w i) (drop at l))) ∙ ap (λ (d : List ℕ). take at l ++ (text ++ d)) (drop-drop (length text) at l)
+          ∙ sym (append_assoc (take at l) text (drop (at + length text) l)) ∙ sym (sets-eq text l at h);
+      behind = refl;
+      within = omega arith;
+    }
 
 -- no list becomes longer or shorter
 pub length-kept : {l a xs : List ℕ} {at r m : ℕ} → Put m l at xs a r → length a ≡ length l

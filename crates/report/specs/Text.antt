@@ -1,12 +1,11 @@
 -- Document 01, Figures to hold it to: what the program prints, as bytes.
-use Rattle.std.specs.Prelude.{ℕ, zero, suc, ◌+◌, ◌/◌, ◌≡◌, List, [], ◌∷◌, ◌++◌, length, get_or, drop, leb, ltb, eqb, ℤ, pos, negsuc}
+use Rattle.std.specs.Prelude.{ℕ, zero, suc, ◌/◌, ◌≡◌, List, [], ◌∷◌, ◌++◌, length, drop, leb, ltb, eqb, ℤ, pos, negsuc, Err, Ok, Result}
 use Rattle.report.specs.Digits.{last_digits}
 use Rattle.basics.specs.Pick.{pick}
 use Rattle.study.specs.Sums.{sum_at}
-use Rattle.valuation.specs.declared.MaybeFactor.{MaybeFactor}
-use Rattle.valuation.specs.declared.MaybeFactor.TheVariants.{Known, Refused}
 use Rattle.valuation.specs.StudyFactor.{study_factor}
-use Rattle.claim_file.specs.declared.FileRun.{FileRun}
+use Rattle.claim_file.specs.Runs.{FileRun}
+use Rattle.valuation.specs.declared.GroupFactor.{GroupFactor}
 
 -- how many decimal digits a number has: at most `more` of them past the first, and no zeros in front
 unfoldable pub places_up_to : ℕ → ℕ → ℕ
@@ -38,9 +37,9 @@ sum_columns sums group zero = []
 sum_columns sums group (suc n) = sum_columns sums group n ++ sum_column (sum_at sums group n)
 
 -- T, and nothing where it is refused
-unfoldable pub factor_column : MaybeFactor → List ℕ
-factor_column (Known f) = count_column f.t
-factor_column (Refused n) = []
+unfoldable pub factor_column : Result GroupFactor ℕ → List ℕ
+factor_column (Ok f) = count_column f.t
+factor_column (Err n) = []
 
 -- the line of a group
 unfoldable pub group_line : List ℤ → ℕ → List ℕ

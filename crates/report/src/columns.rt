@@ -6,7 +6,6 @@ ghost use Rattle.report.specs.Private.{Put};
 
 use crate::puts::{put_byte, put_number, put_sum};
 use study::sums::sum_at;
-use valuation::MaybeFactor;
 use valuation::study_factor::study_factor;
 
 // Thirtieths, the five counts, both expected sums.
@@ -15,11 +14,8 @@ pub(crate) fn put_sums(sums: &[i64; 80], group: u8, at: usize, line: &mut [u8]) 
     ensures { Put 168 line.old at (sum_columns sums.now group 8) line.new result }
 {
     let mut next = at;
-    let mut column: u8 = 0;
-    while column < 8 {
-        let sum = sum_at(sums, group, column);
-        next = put_sum(sum, next, line);
-        column += 1;
+    for column in 0..8 {
+        next = put_sum(sum_at(sums, group, column), next, line);
     }
     next
 }
@@ -30,10 +26,10 @@ pub(crate) fn put_factor(sums: &[i64; 80], group: u8, at: usize, line: &mut [u8]
     ensures { Put 21 line.old at (factor_column (study_factor sums.now group)) line.new result }
 {
     match study_factor(sums, group) {
-        MaybeFactor::Known(factor) => {
+        Ok(factor) => {
             let next = put_byte(32, at, line);
             put_number(factor.t, next, line)
         }
-        MaybeFactor::Refused(number) => at,
+        Err(_) => at,
     }
 }

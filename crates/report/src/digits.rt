@@ -19,16 +19,12 @@ pub(crate) fn decimal(n: u64, out: &mut [u8; 20]) -> usize
 fn digit_count(n: u64) -> usize
     ensures { IsDigitCount 10 1 n result }
 {
-    let mut k = 1;
-    let mut rest = n / 10;
-    while rest > 0 {
-        rest /= 10;
-        k += 1;
-    }
-    k
+    n.max(1).ilog10() as usize + 1
 }
 
 // Puts the last k digits of n at the start of out.
+// Kept: over `out[..k].iter_mut().rev()` the proof of the digits didn't close; the kit's `itoa` is proved of digits by another definition, and a law
+// would have to tie both.
 fn write_digits(n: u64, k: usize, out: &mut [u8])
     requires { k ≤ length out.old }
     ensures digits { take k out.new ≡ last_digits 10 k n }

@@ -1,5 +1,7 @@
 // What the program prints, line by line, as bytes in a small lent list: the table's head, the line of a group, where a file was
 // refused, and which of them a run has.
+// Kept: of a list that is too short 0 is the length put, and no `None`, since `run_text` adds the lengths up.
+// Kept: each public function has a guard of its own, with the length that it needs: one for all takes a closure that puts, no shorter than the guard.
 #![tactic(auto)]
 
 ghost use Rattle.std.specs.Prelude.{◌≡◌, ◌≤◌, length};
@@ -36,7 +38,7 @@ fn put_group(sums: &[i64; 80], group: u8, line: &mut [u8]) -> usize
     requires { 200 ≤ length line.old }
     ensures { Put 200 line.old 0 (group_line sums.now group) line.new result }
 {
-    let at = put_short(group as u32, 0, line);
+    let at = put_short(u32::from(group), 0, line);
     let at = put_sums(sums, group, at, line);
     let at = put_factor(sums, group, at, line);
     put_byte(10, at, line)
@@ -59,11 +61,11 @@ fn put_refusal(number: u8, block: u32, place: u8, line: &mut [u8]) -> usize
     ensures { Put 53 line.old 0 (refusal_line number block place) line.new result }
 {
     let at = put_text(b"refused", 0, line);
-    let at = put_count(number as u32, at, line);
+    let at = put_count(u32::from(number), at, line);
     let at = put_text(b" block", at, line);
     let at = put_count(block, at, line);
     let at = put_text(b" claim", at, line);
-    let at = put_count(place as u32, at, line);
+    let at = put_count(u32::from(place), at, line);
     put_byte(10, at, line)
 }
 
@@ -88,11 +90,11 @@ pub fn run_line(run: LentRun, sums: &[i64; 80], number: u8, line: &mut [u8]) -> 
     if line.len() < 200 {
         return 0;
     }
-    if run.refused != 0 {
+    if let Some(stop) = run.stop {
         if number != 0 {
             return 0;
         }
-        return refusal_line(run.refused, run.block, run.place, line);
+        return refusal_line(u8::from(stop.refusal), stop.block, stop.place, line);
     }
     if number == 0 {
         return head_line(line);

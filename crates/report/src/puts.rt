@@ -1,5 +1,6 @@
 // Bytes, numbers and sums put at a place of a lent list; each answers the place behind what it put.
-ghost use Rattle.std.specs.Prelude.{◌≡◌, [], ◌∷◌, ◌+◌, ◌≤◌, ◌<◌, nat_abs, length};
+// Kept: place and list apart: `Put` ties the place given to the one answered, and would say the same of both fields of a struct, no shorter.
+ghost use Rattle.std.specs.Prelude.{◌≡◌, [], ◌∷◌, ◌+◌, ◌≤◌, ◌<◌, length};
 ghost use Rattle.report.specs.Text.{number_text, count_column, sum_column};
 ghost use Rattle.report.specs.Private.{Put};
 
@@ -17,10 +18,9 @@ pub(crate) fn put_text(text: &[u8], at: usize, line: &mut [u8]) -> usize
     requires { at + length text.now ≤ length line.old }
     ensures { Put (length text.now) line.old at text.now line.new result }
 {
-    for i in 0..text.len() {
-        line[at + i] = text[i];
-    }
-    at + text.len()
+    let end = at + text.len();
+    line[at..end].copy_from_slice(text);
+    end
 }
 
 pub(crate) fn put_number(number: u64, at: usize, line: &mut [u8]) -> usize
@@ -37,7 +37,7 @@ pub(crate) fn put_short(number: u32, at: usize, line: &mut [u8]) -> usize
     requires { at + 20 ≤ length line.old }
     ensures { Put 10 line.old at (number_text number) line.new result }
 {
-    put_number(number as u64, at, line)
+    put_number(u64::from(number), at, line)
 }
 
 // A space and a count.
@@ -49,26 +49,16 @@ pub(crate) fn put_count(count: u32, at: usize, line: &mut [u8]) -> usize
     put_short(count, at, line)
 }
 
-// A sum without its sign. The least sum's size fits no signed number, so it is taken one nearer to zero first.
-fn size_of(sum: i64) -> u64
-    ensures { result ≡ nat_abs sum }
-{
-    if sum < 0 {
-        let nearer = -1 - sum;
-        return nearer as u64 + 1;
-    }
-    sum as u64
-}
-
 // A space and a sum, which may be negative.
 pub(crate) fn put_sum(sum: i64, at: usize, line: &mut [u8]) -> usize
     requires { at + 22 ≤ length line.old }
     ensures { Put 21 line.old at (sum_column sum) line.new result }
 {
+    let size = sum.unsigned_abs();
     if sum < 0 {
         let at = put_text(b" -", at, line);
-        return put_number(size_of(sum), at, line);
+        return put_number(size, at, line);
     }
     let at = put_byte(32, at, line);
-    put_number(size_of(sum), at, line)
+    put_number(size, at, line)
 }

@@ -1,5 +1,4 @@
 -- `group_line` meets its contract: a list that is too short is left as it is, and another begins with the line. Assumes nothing.
-use borrow.Author.Rules.{rules}
 use native.Mathlib.Omega.{arith}
 use Rattle.report.proofs.Lines.{short, long}
 use Rattle.report.proofs.group_line.Goals as goal

@@ -1,5 +1,4 @@
 -- `head_line` meets its contract: a list that is too short is left as it is, and another begins with the head. Assumes nothing.
-use borrow.Author.Rules.{rules}
 use native.Mathlib.Omega.{arith}
 use Rattle.report.proofs.Lines.{short, long}
 use Rattle.report.specs.Text.{table_head}

@@ -1,17 +1,16 @@
 -- `run_text` meets its contract. The loop's invariant: the lines passed stand one behind another. Assumes nothing.
-use Prim.Native.Nat.{◌+◌, ◌-◌, ◌*◌, ◌≤◌}
-use mathlib.Core.Path.{◌≡◌, refl}
+use Prim.Native.Nat.{◌+◌, ◌-◌, ◌≤◌}
+use mathlib.Core.Path.{◌≡◌}
 use native.Mathlib.Omega.{arith}
-use borrow.Author.Rules.{rules}
 use borrow.Rule.Slice.PartMut.{put_mid}
 use lib.ListN.{length}
-use Rattle.claim_file.specs.declared.FileRun.{FileRun}
+use Rattle.claim_file.specs.Runs.{FileRun}
 use Rattle.claim_file.specs.LentRuns.{run_with}
 use Rattle.report.specs.Text.{run_text, run_line}
 use Rattle.report.specs.Private.{Put}
 use Rattle.report.proofs.Lines.{short, long}
 use Rattle.report.proofs.Texts.{renamed, length-kept}
-use Rattle.report.proofs.TextLines.{first_lines, no_lines, all_lines, line-put, lines_more}
+use Rattle.report.proofs.TextLines.{no_lines, all_lines, line-put, lines_more}
 use Rattle.report.proofs.run_text.Goals as goal
 
 pub returns-then-text-lt1200 : goal.returns-then-text-lt1200

@@ -1,9 +1,8 @@
 -- `put_sums` meets its contract. Invariant: the first `column` columns stand, one behind another. Measure: the columns left. Assumes nothing.
-use Prim.Native.Nat.{ℕ, suc, ◌+◌, ◌-◌, ◌*◌, ◌≤◌}
+use Prim.Native.Nat.{ℕ, suc, ◌+◌, ◌*◌}
 use mathlib.Core.Path.{◌≡◌, ap, ◌∙◌}
 use mathlib.Core.List.{List, ◌++◌}
 use native.Mathlib.Omega.{arith}
-use borrow.Author.Rules.{rules}
 use lib.IntN.{ℤ}
 use mir.Facts.{to_z-of_z}
 use mir.Syntax.{w64}
@@ -27,28 +26,26 @@ module _ (s : List ℤ) (g k : ℕ) where
 
 pub loop-column-init : goal.loop-column-init
 unfolding sum_columns
-loop-column-init c = let s = c.args in (omega arith, nothing s.line.now s.at 0)
+loop-column-init c = let s = c.args in nothing s.line.now s.at 0
 
 pub put_sum-next-requires : goal.put_sum-next-requires
 put_sum-next-requires c =
-    let p = c.loop-column.invariant.1 in
+    let p = c.loop-column.invariant in
     omega (arith, p.behind, p.within, length-kept p)
 
 pub loop-column-preserved : goal.loop-column-preserved
 loop-column-preserved c =
-    let s = c.args in (
-      omega arith,
-      step s.sums.now s.group c.loop-column.column c.loop-column.invariant.1 c.put_sum-next.ensures
-          (to_z-of_z {w = w64} (record { sfits = c.sum_at-sum.type_inv }) ∙ c.sum_at-sum.ensures) (omega arith),
-    )
+    let s = c.args in
+    step s.sums.now s.group c.loop-column.column c.loop-column.invariant c.put_sum-next.ensures
+    (to_z-of_z {w = w64} (record { sfits = c.sum_at.type_inv }) ∙ c.sum_at.ensures) (omega arith)
 
 pub returns : goal.returns
 returns c =
     let l = c.loop-column in
     let s = c.args in
     let e : l.column ≡ 8 = omega arith in
-    let p = renamed l.invariant.1 (ap (sum_columns s.sums.now s.group) e) in
+    let p = renamed l.invariant (ap (sum_columns s.sums.now s.group) e) in
     shorter 168 p (omega (arith, p.within))
 
 pub shape_of-line : goal.shape_of-line
-shape_of-line c = length-kept c.loop-column.invariant.1
+shape_of-line c = length-kept c.loop-column.invariant

@@ -1,30 +1,29 @@
+use Prim.Native.Nat.{ℕ, zero, suc, ◌+◌, ◌-◌, ◌*◌, ◌^◌, ◌≤◌, ◌<◌, max}
+use mathlib.Core.Path.{◌≡◌, ap}
 use native.Mathlib.Omega.{arith}
-use mathlib.Core.Path.{ap, ◌∙◌}
-use Prim.Native.Nat.{ℕ, ◌/◌}
-use Rattle.report.proofs.Powers.{two-mul-div-le, div-pow-one, div-pow-div, pow-le_of_div_pos, lt-pow_of_div-zero}
+use native.Mathlib.Numerals.{add-one}
+use native.Mathlib.Nat.{pow-succ', one-le-pow}
+use Rattle.report.specs.Digits.{IsDigitCount}
 use Rattle.report.proofs.digits.digit_count.Goals as goal
 
-pub loop-rest-init : goal.loop-rest-init
-loop-rest-init c =
-    let a = c.args in
-    (omega arith, omega (arith, two-mul-div-le a.n 10 (omega arith)), div-pow-one a.n 10, omega arith)
+-- no zeros in front
+least : (n k : ℕ) → 10 ^ k ≤ max n 1 → 1 < k + 1 → 10 ^ (k + 1 - 1) ≤ n
+least n zero low h = absurd (omega arith)
+least n (suc j) low h =
+    let e : suc j + 1 - 1 ≡ suc j = omega arith in
+    let f : 10 ^ (suc j + 1 - 1) ≡ 10 ^ suc j = ap (λ (i : ℕ). 10 ^ i) e in
+    let p = pow-succ' 10 j in
+    let q = one-le-pow j 10 (omega arith) in
+    omega arith
 
-pub loop-rest-smaller : goal.loop-rest-smaller
-loop-rest-smaller c = omega (arith, two-mul-div-le c.loop-rest.rest 10 (omega arith))
-
-pub loop-rest-preserved : goal.loop-rest-preserved
-loop-rest-preserved c =
-    let l = c.loop-rest in
-    let n = c.args.n in
-    let b : ℕ = 10 in (
-      omega arith,
-      omega (arith, two-mul-div-le l.rest b (omega arith)),
-      ap (λ (m : ℕ). m / b) l.invariant.2 ∙ div-pow-div n b l.k,
-      λ _. pow-le_of_div_pos n b l.k (omega arith) (omega arith),
-    )
+digits : (n k : ℕ) → 10 ^ k ≤ max n 1 → max n 1 < 10 * 10 ^ k → IsDigitCount 10 1 n (k + 1)
+digits n k low high =
+    let f : 10 ^ (k + 1) ≡ 10 ^ suc k = ap (λ (i : ℕ). 10 ^ i) (add-one k) in
+    let p = pow-succ' 10 k in
+    (omega arith, omega arith, least n k low)
 
 pub returns : goal.returns
 returns c =
     let n = c.args.n in
-    let l = c.loop-rest in
-    (omega arith, lt-pow_of_div-zero n 10 l.k l.k (omega arith) (omega arith) (omega arith), λ more. l.invariant.3 (omega arith))
+    let e = c.ilog10.ensures in
+    digits n c.ilog10.result (omega (arith, e.power_le, c.max.ensures)) (omega (arith, e.next_power_gt, c.max.ensures))

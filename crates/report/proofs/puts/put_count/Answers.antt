@@ -1,5 +1,4 @@
 -- `put_count` meets its contract: a space, and the number behind it. Assumes nothing.
-use borrow.Author.Rules.{rules}
 use Rattle.report.specs.Text.{count_column}
 use Rattle.report.proofs.Texts.{and_then}
 use Rattle.report.proofs.puts.put_count.Goals as goal

@@ -1,5 +1,4 @@
 -- `put_number` meets its contract: the digits are the fewest that hold the number. Assumes nothing.
-use borrow.Author.Rules.{rules}
 use native.Mathlib.Omega.{arith}
 use Rattle.report.proofs.Numbers.{fewest-most, number_digits}
 use Rattle.report.proofs.Texts.{renamed, shorter}

@@ -1,9 +1,10 @@
 -- `put_short` meets its contract: a number of 32 bits has at most ten digits. Assumes nothing.
-use borrow.Author.Rules.{rules}
 use native.Mathlib.Omega.{arith}
 use Rattle.report.proofs.Numbers.{short-length}
-use Rattle.report.proofs.Texts.{shorter}
+use Rattle.report.proofs.Texts.{renamed, shorter}
+use Rattle.report.specs.Text.{number_text}
+use mathlib.Core.Path.{ap}
 use Rattle.report.proofs.puts.put_short.Goals as goal
 
 pub returns : goal.returns
-returns c = shorter 10 c.put_number.ensures (short-length c.args.number (omega arith))
+returns c = shorter 10 (renamed c.put_number.ensures (ap number_text c.from.ensures)) (short-length c.args.number (omega arith))

@@ -1,9 +1,8 @@
 -- `put_sum` meets its contract: the sign as the test says, and the size behind it. Assumes nothing.
-use borrow.Author.Rules.{rules}
 use Prim.Native.Nat.{ℕ, suc, ◌≤◌}
 use mathlib.Core.Path.{◌≡◌, refl, ap, ◌∙◌}
 use mathlib.Core.Bool.{true, false}
-use mathlib.Core.List.{List, [], ◌∷◌, ◌++◌}
+use mathlib.Core.List.{[], ◌∷◌, ◌++◌}
 use native.Mathlib.Omega.{arith}
 use lib.ListN.{length}
 use lib.IntN.{ℤ, pos, negsuc, nat_abs}
@@ -37,10 +36,10 @@ sum-length (negsuc n) f = let h = size-length (suc n) (omega (arith, f.sfits)) i
 
 pub returns-then-sum-lt0 : goal.returns-then-sum-lt0
 returns-then-sum-lt0 c =
-    let text = negative c.args.sum _ (rw (to_z-of_z c.ranges.sum) at c.if-sum-lt0.true) (c.size_of.ensures ∙ ap nat_abs (to_z-of_z c.ranges.sum)) in
+    let text = negative c.args.sum _ (rw (to_z-of_z c.ranges.sum) at c.if-sum-lt0.true) (c.unsigned_abs-size.ensures.value ∙ ap nat_abs (to_z-of_z c.ranges.sum)) in
     shorter 21 (renamed (and_then c.put_text-at.ensures c.put_number.ensures) text) (sum-length c.args.sum c.ranges.sum)
 
 pub returns : goal.returns
 returns c =
     renamed (and_then c.put_byte-at.ensures c.put_number-2.ensures)
-    (positive c.args.sum _ (rw (to_z-of_z c.ranges.sum) at c.if-sum-lt0.false) (c.size_of-2.ensures ∙ ap nat_abs (to_z-of_z c.ranges.sum)))
+    (positive c.args.sum _ (rw (to_z-of_z c.ranges.sum) at c.if-sum-lt0.false) (c.unsigned_abs-size.ensures.value ∙ ap nat_abs (to_z-of_z c.ranges.sum)))
