@@ -9,8 +9,8 @@ use lib.Dec.{leb}
 use borrow.Author.Tests.{le-leb}
 use Rattle.basics.proofs.Tests.{tests, by}
 use Rattle.claim_file.specs.BlockAnswers.{no_claim}
-use Rattle.load.specs.declared.MaybeLoaded.TheVariants.{Loaded}
 use Rattle.load.specs.Load.{seed_sound, draw, drawn, load_claim, step_sound, load_step, load_from, load, seed_at}
+use Rattle.std.specs.Prelude.{Ok}
 
 -- 48,271 × 1,899,818,559 is 1 more than 42,704 × 2,147,483,647. So if the draw of x is 0, x is a multiple of 2,147,483,647, which no seed is
 not-multiple : (x z : ℕ) → x ≡ 2147483647 * z → 1 ≤ x → x ≤ 2147483646 → ⊥
@@ -67,13 +67,13 @@ claim-at x size i h = let e : 1 + i ≡ suc i = omega tests in claim-from size x
 
 -- a sound step is answered with its claim
 pub answered : (x size number : ℕ) → seed_sound x ≡ true → size ≤ 500000 → 1 ≤ number → number ≤ size
-    → load_step x size number ≡ Loaded (record { claim = load_claim x number; x = drawn 5 x })
+    → load_step x size number ≡ Ok (record { claim = load_claim x number; x = drawn 5 x })
 unfolding load_step step_sound
 answered x size number s h l m = rw (s, le-leb size 500000 h, le-leb 1 number l, le-leb number size m)
 
 pub steps : (x size i : ℕ) → seed_sound x ≡ true → size ≤ 500000 → i < size
-    → load_step (seed_at x i) size (suc i) ≡ Loaded (record { claim = get_or (load x size) i no_claim; x = seed_at x (suc i) })
+    → load_step (seed_at x i) size (suc i) ≡ Ok (record { claim = get_or (load x size) i no_claim; x = seed_at x (suc i) })
 unfolding seed_at
 steps x size i s h l =
     answered (seed_at x i) size (suc i) (seed-at i x s) h (omega tests) (omega tests)
-    ∙ (λ j. Loaded (record { claim = sym (claim-at x size i l) j; x = drawn 5 (seed_at x i) }))
+    ∙ (λ j. Ok (record { claim = sym (claim-at x size i l) j; x = drawn 5 (seed_at x i) }))

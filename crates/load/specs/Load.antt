@@ -1,5 +1,5 @@
 -- Document 02, request No. 13: a load that anyone can rebuild. From a seed, a size and a claim number due comes a claim, and the x reached.
-use Rattle.std.specs.Prelude.{ℕ, zero, suc, ◌+◌, ◌*◌, ◌/◌, ◌%◌, ◌<◌, ◌≤◌, ◌≡◌, Bool, true, ◌&&◌, List, [], ◌∷◌, ◌++◌, length, get_or, take, drop, leb, eqb}
+use Rattle.std.specs.Prelude.{ℕ, zero, suc, ◌+◌, ◌*◌, ◌/◌, ◌%◌, ◌<◌, ◌≤◌, ◌≡◌, Bool, true, ◌&&◌, List, [], ◌∷◌, ◌++◌, length, get_or, take, drop, leb, eqb, Err, Ok, Result}
 use Rattle.basics.specs.Limits.{most_claims}
 use Rattle.basics.specs.Pick.{pick}
 use Rattle.basics.specs.Checks.{◌then◌, refuse_load}
@@ -14,8 +14,7 @@ use Rattle.claim_file.specs.Block.{window_bytes, bytes_of_block}
 use Rattle.claim_file.specs.BlockAnswers.{no_date, no_claim}
 use Rattle.claim_file.specs.Run.{file_run}
 use Rattle.claim_file.specs.Files.{file_claims, Accepts, window_days}
-use Rattle.load.specs.declared.MaybeLoaded.{MaybeLoaded}
-use Rattle.load.specs.declared.MaybeLoaded.TheVariants.{Loaded, Refused}
+use Rattle.load.specs.declared.LoadedClaim.{LoadedClaim}
 
 -- a seed: 1 to 2,147,483,646
 unfoldable pub seed_sound : ℕ → Bool
@@ -71,9 +70,9 @@ unfoldable pub step_sound : ℕ → ℕ → ℕ → Bool
 step_sound x size number = seed_sound x && leb size most_claims && leb 1 number && leb number size
 
 -- a step
-unfoldable pub load_step : ℕ → ℕ → ℕ → MaybeLoaded
+unfoldable pub load_step : ℕ → ℕ → ℕ → Result LoadedClaim ℕ
 load_step x size number =
-    pick (step_sound x size number) (Loaded (record { claim = load_claim x number; x = drawn 5 x })) (Refused refuse_load)
+    pick (step_sound x size number) (Ok (record { claim = load_claim x number; x = drawn 5 x })) (Err refuse_load)
 
 -- The load of a seed and a size: the claims of its steps, of which the first has number 1, each from the x that the one before it reached
 unfoldable pub load_from : ℕ → ℕ → ℕ → List Claim
@@ -105,7 +104,7 @@ pub record Rebuildable : Type 0 where
   -- an answer's x is again a seed, so no load breaks off: every step of it is answered with its claim
   pub seeds : (x : ℕ) → seed_sound x ≡ true → seed_sound (drawn 5 x) ≡ true
   pub steps : (x size i : ℕ) → seed_sound x ≡ true → size ≤ most_claims → i < size
-      → load_step (seed_at x i) size (suc i) ≡ Loaded (record { claim = get_or (load x size) i no_claim; x = seed_at x (suc i) })
+      → load_step (seed_at x i) size (suc i) ≡ Ok (record { claim = get_or (load x size) i no_claim; x = seed_at x (suc i) })
   -- every generated claim passes the checks 1 to 5 and 16 in every sound window
   pub passes : (x number b e : ℕ) → seed_sound x ≡ true → window_check b e ≡ 0 → (window_check b e then claim_check (load_claim x number)) ≡ 0
   -- a load has exactly so many claims, with the numbers 1 to its size

@@ -2,15 +2,15 @@
 #![tactic(auto)]
 
 ghost use Rattle.std.specs.Prelude.{◌≡◌, ◌+◌, ◌≤◌};
+ghost use Rattle.basics.specs.Refused.{numbered};
 ghost use Rattle.calendar.specs.Calendar.{date_of, last_day_number};
-ghost use Rattle.claim_file.specs.BlockAnswers.{no_date};
 ghost use Rattle.load.specs.Load.{draw, drawn, load_claim, step_sound, load_step};
 ghost use Rattle.load.specs.Private.{ending_of};
 
 use basics::limits::MOST_CLAIMS;
-use basics::refusal;
-use calendar::{Date, Day, MaybeDate};
-use claim_months::Claim;
+use basics::refusal::Refusal;
+use calendar::{Date, Day};
+use claim_months::{Claim, NO_DATE};
 
 // The last seed: seeds are from 1 on.
 pub const LAST_SEED: u32 = 2147483646;
@@ -22,14 +22,8 @@ pub struct LoadedClaim {
     pub x: u32,
 }
 
-// A step's answer: its claim, or the number refused.
-#[derive(Clone, Copy)]
-pub enum MaybeLoaded {
-    Loaded(LoadedClaim),
-    Refused(u8),
-}
-
 // What a claim ends with: termination date and code, and the x reached.
+// Kept: no `Option`, since an open claim's own fields hold code 0 and a missing date.
 #[derive(Clone, Copy)]
 struct Ending {
     termination: Date,
@@ -41,18 +35,7 @@ struct Ending {
 fn draw(x: u32) -> u32
     ensures { result ≡ draw x }
 {
-    (48271 * x as u64 % 2147483647) as u32
-}
-
-// A missing date.
-fn no_date() -> Date
-    ensures { result ≡ no_date }
-{
-    Date {
-        year: 0,
-        month: 0,
-        day: 0,
-    }
+    (48271 * u64::from(x) % 2147483647) as u32
 }
 
 // The date of a day number.
@@ -60,15 +43,13 @@ fn date_on(day: Day) -> Date
     requires { day.0 ≤ last_day_number }
     ensures { result ≡ date_of day.0 }
 {
-    match calendar::date_of_day(day) {
-        MaybeDate::Found(date) => date,
-        // No day of a load is past the calendar's last.
-        MaybeDate::NoDate => no_date(),
-    }
+    // No day of a load is past the calendar's last.
+    calendar::date_of_day(day).unwrap_or(NO_DATE)
 }
 
 // The last two draws of a claim, from the x that the third set: what a closed claim ends with, and the x reached. They are made of an open claim
 // too, which has no end.
+// Kept: whether it is closed is a bool, since both draws are made either way.
 fn last_draws(closed: bool, bcd: Day, x: u32) -> Ending
     requires { bcd.0 + 3999 ≤ last_day_number }
     ensures { result ≡ ending_of closed bcd.0 x }
@@ -83,7 +64,7 @@ fn last_draws(closed: bool, bcd: Day, x: u32) -> Ending
         };
     }
     Ending {
-        termination: no_date(),
+        termination: NO_DATE,
         code: 0,
         x: fifth, // not the x given: both draws are made
     }
@@ -100,13 +81,12 @@ fn loaded(x: u32, number: u32) -> LoadedClaim
     let bcd = Day(disability.0 + (15 + second % 351));
     let status = (third % 2) as u8;
     let end = last_draws(status == 1, bcd, third);
-    let termination = end.termination;
     let claim = Claim {
         number,
         disability: date_on(disability),
         bcd: date_on(bcd),
-        termination,
-        maximum: no_date(),
+        termination: end.termination,
+        maximum: NO_DATE,
         status,
         code: end.code,
         cell: 0,
@@ -116,30 +96,19 @@ fn loaded(x: u32, number: u32) -> LoadedClaim
 }
 
 // Whether a seed, a size and a claim number are those of a step.
+#[tactic(auto, unfolding(crate::specs::Load::seed_sound, crate::specs::Load::step_sound))]
 fn is_step(x: u32, size: u32, number: u32) -> bool
     ensures { result ≡ step_sound x size number }
 {
-    if x < 1 {
-        return false;
-    }
-    if x > LAST_SEED {
-        return false;
-    }
-    if size > MOST_CLAIMS {
-        return false;
-    }
-    if number < 1 {
-        return false;
-    }
-    number <= size
+    (1..=LAST_SEED).contains(&x) && size <= MOST_CLAIMS && (1..=size).contains(&number)
 }
 
 // A step of a load: the claim with the number due and the x reached, or 20.
-pub fn load_claim(x: u32, size: u32, number: u32) -> MaybeLoaded
-    ensures { result ≡ load_step x size number }
+pub fn load_claim(x: u32, size: u32, number: u32) -> Result<LoadedClaim, Refusal>
+    ensures { numbered result ≡ load_step x size number }
 {
     if !is_step(x, size, number) {
-        return MaybeLoaded::Refused(refusal::LOAD);
+        return Err(Refusal::Load);
     }
-    MaybeLoaded::Loaded(loaded(x, number))
+    Ok(loaded(x, number))
 }

@@ -11,15 +11,15 @@ use lib.Seq.{drop-cons}
 use borrow.Author.Tests.{le-leb, lt-leb}
 use Rattle.basics.specs.Pick.{pick}
 use Rattle.basics.proofs.Tests.{tests}
-use Rattle.ltd_load.specs.declared.MaybeNumber.TheVariants.{Number, NoNumber}
 use Rattle.ltd_load.specs.Words.{is_digit, all_digits, value_from, is_number, number_in}
+use Rattle.std.specs.Prelude.{None, Some}
 
 grows : (bs : List ℕ) (n : ℕ) → n ≤ value_from n bs
 unfolding value_from
 grows [] n = omega arith
 grows (b ∷ bs) n = omega (arith, grows bs (10 * n + (b - 48)))
 
-no_number : (word : List ℕ) → is_number word ≡ false → NoNumber ≡ number_in word
+no_number : (word : List ℕ) → is_number word ≡ false → None ≡ number_in word
 unfolding number_in
 no_number word e = rw e
 
@@ -27,7 +27,7 @@ pub digit-bounds : (b : ℕ) → is_digit b ≡ true → (48 ≤ b) × (b ≤ 57
 unfolding is_digit
 digit-bounds b h = let t = simp and-eq-true_iff at h in omega tests
 
-pub empty-word : (word : List ℕ) → length word ≡ 0 → NoNumber ≡ number_in word
+pub empty-word : (word : List ℕ) → length word ≡ 0 → None ≡ number_in word
 unfolding is_number
 empty-word word e = no_number word (simp (lt-leb 1 (length word) (omega arith)))
 
@@ -53,13 +53,13 @@ module _ (word : List ℕ) (number i : ℕ) (r : Read word number i) (l : i < le
   unfolding all_digits
   next-digits = sym (ap all_digits first_byte) ∙ r.digits-so
 
-  pub not_digit : is_digit (get_or word i 0) ≡ false → NoNumber ≡ number_in word
+  pub not_digit : is_digit (get_or word i 0) ≡ false → None ≡ number_in word
   unfolding is_number
   not_digit e =
       let d : all_digits word ≡ false = sym next-digits ∙ ap (λ (t : Bool). t && all_digits (drop (suc i) word)) e in
       no_number word (simp (d, and-false))
 
-  pub too_large : 4294967295 < 10 * number + (get_or word i 0 - 48) → NoNumber ≡ number_in word
+  pub too_large : 4294967295 < 10 * number + (get_or word i 0 - 48) → None ≡ number_in word
   unfolding is_number
   too_large h =
       let v = next-value in
@@ -75,11 +75,11 @@ module _ (word : List ℕ) (number i : ℕ) (r : Read word number i) (l : i < le
         digits-so = ap (λ (k : ℕ). all_digits (drop k word)) (add-one i) ∙ sym (ap (λ (t : Bool). t && all_digits (drop (suc i) word)) d) ∙ next-digits;
       }
 
-pub all_read : (word : List ℕ) (number i : ℕ) → Read word number i → length word ≤ i → (length word ≡ 0 → ⊥) → Number number ≡ number_in word
+pub all_read : (word : List ℕ) (number i : ℕ) → Read word number i → length word ≤ i → (length word ≡ 0 → ⊥) → Some number ≡ number_in word
 unfolding is_number number_in value_from all_digits
 all_read word number i r h k =
     let e : drop i word ≡ [] = drop_of_length-le word {i = i} h in
     let v : number ≡ value_from 0 word = sym (ap (value_from number) e) ∙ r.value-so in
     let d : all_digits word ≡ true = sym r.digits-so ∙ ap all_digits e in
     let t : is_number word ≡ true = simp (le-leb 1 (length word) (omega arith), d, le-leb (value_from 0 word) 4294967295 (omega (arith, r.small))) in
-    ap Number v ∙ sym (ap (λ (t : Bool). pick t (Number (value_from 0 word)) NoNumber) t)
+    ap Some v ∙ sym (ap (λ (t : Bool). pick t (Some (value_from 0 word)) None) t)

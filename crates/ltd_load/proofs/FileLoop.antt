@@ -1,6 +1,6 @@
 -- The loop that writes the blocks of claims: what it has come to, and that the block which it makes is the file's.
 -- Assumes nothing.
-use Prim.Native.Nat.{ℕ, zero, suc, ◌+◌, ◌-◌, ◌*◌, ◌≤◌, min}
+use Prim.Native.Nat.{ℕ, zero, suc, ◌+◌, ◌-◌, ◌*◌, ◌≤◌, ◌<◌, min}
 use mathlib.Core.Path.{◌≡◌, sym, ap, ◌∙◌}
 use mathlib.Core.Bool.{Bool}
 use mathlib.Core.List.{List}
@@ -23,56 +23,46 @@ unfolding seed_at
 seed-sum s a zero = let e : a ≡ a + 0 = omega arith in ap (seed_at s) e
 seed-sum s a (suc b) = let e : suc (a + b) ≡ a + suc b = omega arith in ap (drawn 5) (seed-sum s a b) ∙ ap (seed_at s) e
 
--- block `due` is next, with the claim of that number first and the x that the claims before it reached
-pub record Come (a : Asked) (x number due : ℕ) : Type 0 where
-  pub due-low : 1 ≤ due
-  pub number-so : number ≡ 1 + 15 * (due - 1)
-  pub reached-so : x ≡ seed_at a.seed (min (15 * (due - 1)) a.size)
+-- the x that the claims of the first k blocks reached
+abbrev pub Come : Asked → ℕ → ℕ → Type 0
+Come a x k = x ≡ seed_at a.seed (min (15 * k) a.size)
 
-pub none_written : (a : Asked) → Come a a.seed 1 1
+pub none_written : (a : Asked) → Come a a.seed 0
 unfolding seed_at
-none_written a = let e : 0 ≡ min (15 * (1 - 1)) a.size = omega arith in record { due-low = omega arith; number-so = omega arith; reached-so = ap (seed_at a.seed) e }
+none_written a = let e : 0 ≡ min (15 * 0) a.size = omega arith in ap (seed_at a.seed) e
 
-module _ (a : Asked) (ok : LoadAsked a) (x number due : ℕ) (come : Come a x number due) (more : number ≤ a.size) where
-  before : x ≡ seed_at a.seed (15 * (due - 1))
-  before = let e : min (15 * (due - 1)) a.size ≡ 15 * (due - 1) = omega (arith, come.number-so) in come.reached-so ∙ ap (seed_at a.seed) e
+-- one block more is due, with the claim behind those of the first k blocks first
+module _ (a : Asked) (ok : LoadAsked a) (x k : ℕ) (come : Come a x k) (more : 15 * k < a.size) where
+  before : x ≡ seed_at a.seed (15 * k)
+  before = let e : min (15 * k) a.size ≡ 15 * k = omega arith in come ∙ ap (seed_at a.seed) e
 
-  pub is-due : Due x a.size number
+  pub is-due : Due x a.size (15 * k + 1)
   is-due =
-      record {
-        seed_so = rw before (seed-at (15 * (due - 1)) a.seed ok.seed_so);
-        size_so = ok.size_so;
-        number_low = omega (arith, come.number-so);
-        number_high = more;
-      }
+      record { seed_so = rw before (seed-at (15 * k) a.seed ok.seed_so); size_so = ok.size_so; number_low = omega arith; number_high = omega arith }
 
-  pub numbered : (1 ≤ due) × (due ≤ 65535)
-  numbered = (come.due-low, omega (arith, come.number-so, ok.size_so))
+  pub numbered : (1 ≤ k + 1) × (k + 1 ≤ 65535)
+  numbered = (omega arith, omega (arith, ok.size_so))
 
   -- its bytes are those of the file
-  pub is_block : (bytes : List ℕ) → bytes ≡ bytes_of_block due (load_from x number (count_from a.size number)) → bytes ≡ block_asked a due
+  pub is_block : (bytes : List ℕ) → bytes ≡ bytes_of_block (k + 1) (load_from x (15 * k + 1) (count_from a.size (15 * k + 1))) → bytes ≡ block_asked a (k + 1)
   unfolding block_asked file_asked count_from
   is_block bytes q =
       let w : WindowDates = record { first = a.first; last = a.last } in
-      let k = due - 1 in
-      let d : due ≡ 1 + k = omega (arith, come.due-low) in
-      let s : suc k ≡ due = omega (arith, come.due-low) in
-      let n : number ≡ 1 + 15 * k = come.number-so in
-      let m : min 15 (suc a.size - number) ≡ min 15 (a.size - 15 * k) = omega (arith, come.number-so) in
+      let d : k + 1 ≡ 1 + k = omega arith in
+      let s : suc k ≡ k + 1 = omega arith in
+      let n : 15 * k + 1 ≡ 1 + 15 * k = omega arith in
+      let m : min 15 (suc a.size - (15 * k + 1)) ≡ min 15 (a.size - 15 * k) = omega arith in
       q
       ∙ (λ i. bytes_of_block (d i) (load_from (before i) (n i) (m i)))
-      ∙ sym (block-after w a.seed a.size k ok.size_so (omega (arith, come.number-so)))
+      ∙ sym (block-after w a.seed a.size k ok.size_so (omega arith))
       ∙ ap (block_asked a) s
 
-  pub one_more : (y : ℕ) → y ≡ seed_at x (count_from a.size number) → Come a y (number + 15) (due + 1)
+  pub one_more : (y : ℕ) → y ≡ seed_at x (count_from a.size (15 * k + 1)) → Come a y (k + 1)
   unfolding count_from
   one_more y q =
-      let e : 15 * (due - 1) + min 15 (suc a.size - number) ≡ min (15 * (due + 1 - 1)) a.size = omega (arith, come.number-so, come.due-low) in
-      record {
-        due-low = omega arith;
-        number-so = omega (arith, come.number-so, come.due-low);
-        reached-so = q ∙ ap (λ (s : ℕ). seed_at s (min 15 (suc a.size - number))) before ∙ seed-sum a.seed (15 * (due - 1)) (min 15 (suc a.size - number)) ∙ ap (seed_at a.seed) e;
-      }
+      let e : 15 * k + min 15 (suc a.size - (15 * k + 1)) ≡ min (15 * (k + 1)) a.size = omega arith in
+      q ∙ ap (λ (s : ℕ). seed_at s (min 15 (suc a.size - (15 * k + 1)))) before ∙ seed-sum a.seed (15 * k) (min 15 (suc a.size - (15 * k + 1)))
+      ∙ ap (seed_at a.seed) e
 
 -- block 0
 pub is-window : (a : Asked) (old bytes : List ℕ) → length old ≡ 512 → bytes ≡ window_after a.first a.last old → bytes ≡ block_asked a 0

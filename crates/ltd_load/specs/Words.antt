@@ -1,11 +1,8 @@
 -- The words of the call, as bytes in ASCII: a number in decimal digits, and a date as 2010-01-01.
-use Rattle.std.specs.Prelude.{ℕ, ◌+◌, ◌-◌, ◌*◌, Bool, true, ◌&&◌, List, [], ◌∷◌, length, get_or, take, drop, leb, eqb}
+use Rattle.std.specs.Prelude.{ℕ, ◌+◌, ◌-◌, ◌*◌, Bool, true, ◌&&◌, List, [], ◌∷◌, length, get_or, take, drop, leb, eqb, None, Option, Some}
 use Rattle.basics.specs.Pick.{pick}
-use Rattle.calendar.specs.declared.MaybeDate.{MaybeDate}
-use Rattle.calendar.specs.declared.MaybeDate.TheVariants.{Found, NoDate}
 use Rattle.calendar.specs.Calendar.{is_date}
-use Rattle.ltd_load.specs.declared.MaybeNumber.{MaybeNumber}
-use Rattle.ltd_load.specs.declared.MaybeNumber.TheVariants.{Number, NoNumber}
+use Rattle.calendar.specs.declared.Date.{Date}
 
 unfoldable pub is_digit : ℕ → Bool
 is_digit b = leb 48 b && leb b 57
@@ -23,22 +20,22 @@ value_from n (b ∷ bs) = value_from (10 * n + (b - 48)) bs
 unfoldable pub is_number : List ℕ → Bool
 is_number word = leb 1 (length word) && all_digits word && leb (value_from 0 word) 4294967295
 
-unfoldable pub number_in : List ℕ → MaybeNumber
-number_in word = pick (is_number word) (Number (value_from 0 word)) NoNumber
+unfoldable pub number_in : List ℕ → Option ℕ
+number_in word = pick (is_number word) (Some (value_from 0 word)) None
 
 -- the date of a year, a month and a day
-unfoldable pub date_of_parts : ℕ → ℕ → ℕ → MaybeDate
-date_of_parts y m d = pick (is_date (record { year = y; month = m; day = d })) (Found (record { year = y; month = m; day = d })) NoDate
+unfoldable pub date_of_parts : ℕ → ℕ → ℕ → Option Date
+date_of_parts y m d = pick (is_date (record { year = y; month = m; day = d })) (Some (record { year = y; month = m; day = d })) None
 
-unfoldable pub date_of : MaybeNumber → MaybeNumber → MaybeNumber → MaybeDate
-date_of (Number y) (Number m) (Number d) = date_of_parts y m d
-date_of (Number y) (Number m) NoNumber = NoDate
-date_of (Number y) NoNumber d = NoDate
-date_of NoNumber m d = NoDate
+unfoldable pub date_of : Option ℕ → Option ℕ → Option ℕ → Option Date
+date_of (Some y) (Some m) (Some d) = date_of_parts y m d
+date_of (Some y) (Some m) None = None
+date_of (Some y) None d = None
+date_of None m d = None
 
 -- a word's date: four digits, a hyphen, two digits, a hyphen, two digits
 unfoldable pub is_dated : List ℕ → Bool
 is_dated word = eqb (length word) 10 && eqb (get_or word 4 0) 45 && eqb (get_or word 7 0) 45
 
-unfoldable pub date_in : List ℕ → MaybeDate
-date_in word = pick (is_dated word) (date_of (number_in (take 4 word)) (number_in (take 2 (drop 5 word))) (number_in (take 2 (drop 8 word)))) NoDate
+unfoldable pub date_in : List ℕ → Option Date
+date_in word = pick (is_dated word) (date_of (number_in (take 4 word)) (number_in (take 2 (drop 5 word))) (number_in (take 2 (drop 8 word)))) None

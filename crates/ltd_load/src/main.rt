@@ -7,14 +7,8 @@ mod output;
 mod words;
 
 use calendar::Date;
+use call::Call;
 use claim_file::Block;
-
-// A number, or none.
-#[derive(Clone, Copy)]
-enum MaybeNumber {
-    Number(u32),
-    NoNumber,
-}
 
 // A load, and the window of its file.
 #[derive(Clone, Copy)]
@@ -25,13 +19,6 @@ struct Asked {
     last: Date,
 }
 
-// What was asked for, or a word was wrong.
-#[derive(Clone, Copy)]
-enum MaybeAsked {
-    Load(Asked),
-    Wrong,
-}
-
 // A block's claims, and the x reached.
 #[derive(Clone, Copy)]
 struct LoadedBlock {
@@ -40,8 +27,11 @@ struct LoadedBlock {
 }
 
 fn main(rt: HostRuntime) {
-    match call::asked(&rt, &rt.stderr()) {
-        MaybeAsked::Load(asked) => output::write_load(&rt, asked),
-        MaybeAsked::Wrong => {}
+    let words = Call {
+        args: &rt,
+        err: &rt.stderr(),
+    };
+    if let Some(asked) = words.asked() {
+        output::write_load(&rt, asked);
     }
 }

@@ -1,87 +1,48 @@
 // What a word says: a number in decimal digits, or a date as 2010-01-01.
 ghost use Rattle.std.specs.Prelude.{◌≡◌};
-ghost use Rattle.ltd_load.specs.Words.{is_digit, number_in, date_of_parts, date_in};
+ghost use Rattle.ltd_load.specs.Words.{number_in, date_of_parts, date_in};
 
-use crate::MaybeNumber;
-use calendar::{Date, MaybeDate};
+use calendar::Date;
 
-fn is_digit(byte: u8) -> bool
-    ensures { result ≡ is_digit byte }
-{
-    if byte < b'0' {
-        return false;
-    }
-    byte <= b'9'
-}
-
-// A word's number: digits and nothing else, up to 2^32 - 1.
-pub fn number_in(word: &[u8]) -> MaybeNumber
+// A word's number: digits and nothing else, up to 2^32 - 1. Kept: `parse` takes a plus sign too.
+pub fn number_in(word: &[u8]) -> Option<u32>
     ensures { result ≡ number_in word.now }
 {
-    if word.len() == 0 {
-        return MaybeNumber::NoNumber;
+    if word.is_empty() {
+        return None;
     }
-    let mut number: u64 = 0;
-    let mut i = 0;
-    while i < word.len() {
-        let byte = word[i];
-        if !is_digit(byte) {
-            return MaybeNumber::NoNumber;
+    let mut number: u32 = 0;
+    for byte in word {
+        if !byte.is_ascii_digit() {
+            return None;
         }
-        number = 10 * number + (byte - b'0') as u64;
-        if number > 4294967295 {
-            return MaybeNumber::NoNumber;
-        }
-        i += 1;
+        number = number
+            .checked_mul(10)?
+            .checked_add(u32::from(*byte - b'0'))?;
     }
-    MaybeNumber::Number(number as u32)
+    Some(number)
 }
 
 // The date of a year, a month and a day.
-fn date_of_parts(year: u32, month: u32, day: u32) -> MaybeDate
+fn date_of_parts(year: u32, month: u32, day: u32) -> Option<Date>
     ensures { result ≡ date_of_parts year month day }
 {
-    if year > 2099 {
-        return MaybeDate::NoDate;
-    }
-    if month > 12 {
-        return MaybeDate::NoDate;
-    }
-    if day > 31 {
-        return MaybeDate::NoDate;
-    }
-    let date = Date {
-        year: year as u16,
-        month: month as u8,
-        day: day as u8,
-    };
-    if calendar::is_date(date) {
-        return MaybeDate::Found(date);
-    }
-    MaybeDate::NoDate
+    let year = u16::try_from(year).ok()?;
+    let month = u8::try_from(month).ok()?;
+    let day = u8::try_from(day).ok()?;
+    let date = Date { year, month, day };
+    calendar::is_date(date).then_some(date)
 }
 
 // A word's date.
-pub fn date_in(word: &[u8]) -> MaybeDate
+pub fn date_in(word: &[u8]) -> Option<Date>
     ensures { result ≡ date_in word.now }
 {
-    if word.len() != 10 {
-        return MaybeDate::NoDate;
+    if word.len() != 10 || word[4] != b'-' || word[7] != b'-' {
+        return None;
     }
-    if word[4] != b'-' {
-        return MaybeDate::NoDate;
-    }
-    if word[7] != b'-' {
-        return MaybeDate::NoDate;
-    }
-    let MaybeNumber::Number(year) = number_in(&word[0..4]) else {
-        return MaybeDate::NoDate;
-    };
-    let MaybeNumber::Number(month) = number_in(&word[5..7]) else {
-        return MaybeDate::NoDate;
-    };
-    let MaybeNumber::Number(day) = number_in(&word[8..10]) else {
-        return MaybeDate::NoDate;
-    };
+    let year = number_in(&word[0..4])?;
+    let month = number_in(&word[5..7])?;
+    let day = number_in(&word[8..10])?;
     date_of_parts(year, month, day)
 }

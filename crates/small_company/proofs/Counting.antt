@@ -8,6 +8,9 @@ use borrow.Author.Tests.{eq-eqb, ne_eqb, le-leb, lt-leb, lt-ltb, le-ltb}
 use lib.ListN.{length}
 use Rattle.basics.specs.Pick.{pick}
 use Rattle.basics.specs.Checks.{◌then◌}
+use Rattle.basics.specs.declared.refusal.Refusal.{Refusal}
+use Rattle.basics.specs.Refused.{number_of}
+use Rattle.std.specs.Prelude.{Ok, Err}
 use Rattle.basics.proofs.Tests.{tests, by, and_left, and_right}
 use Rattle.basics.proofs.Checks.{then_next, then-fails}
 use Rattle.calendar.specs.Calendar.{day_number}
@@ -15,9 +18,9 @@ use Rattle.claim_months.specs.declared.Claim.{Claim}
 use Rattle.claim_months.specs.Claim.{claim_check}
 use Rattle.claim_file.specs.Record.{claim_from, record_padded}
 use Rattle.small_company.specs.declared.Counts.{Counts}
-use Rattle.small_company.specs.declared.Counted.{Counted}
 use Rattle.small_company.specs.SmallCompany.{listed_claims, claims_check, those}
-use Rattle.small_company.specs.Private.{recent_in, earlier_in, counts_of, with_one, uncounted, counted_of}
+use Rattle.small_company.specs.Private.{recent_in, earlier_in, counts_of, with_one, counted_of}
+use Rattle.small_company.proofs.Refusals.{not-zero}
 use Rattle.small_company.proofs.Listing.{records, claims_left, padded_left, claims-all, claims-at, padded-at, claims-end}
 
 -- the claims of a list with a property, of which n stand before its record k
@@ -77,12 +80,12 @@ module _ (b e : ℕ) (bytes : List ℕ) where
     pub is-padded : record_padded bytes (32 * k) ≡ true
     is-padded = and_left (record_padded bytes (32 * k)) (padded_left bytes (k + 1)) both
 
-    pub refused : (m : ℕ) → m ≡ claim_check (claim_from bytes (32 * k)) → (m ≡ 0 → ⊥) → uncounted m ≡ counted_of b e (listed_claims bytes)
+    pub refused : (r : Refusal) → number_of r ≡ claim_check (claim_from bytes (32 * k)) → Err (number_of r) ≡ counted_of b e (listed_claims bytes)
     unfolding counted_of
-    refused m q f =
-        let s : claims_check (listed_claims bytes) ≡ m
-        = check-at ∙ then-fails (claim_check (claim_from bytes (32 * k))) (claims_check (claims_left bytes (k + 1))) (λ z. f (q ∙ z)) ∙ sym q in
-        rw (s, ne_eqb m 0 f)
+    refused r q =
+        let f = not-zero r (claim_check (claim_from bytes (32 * k))) q in
+        let s = check-at ∙ then-fails (claim_check (claim_from bytes (32 * k))) (claims_check (claims_left bytes (k + 1))) f in
+        rw (q, s) (simp (ne_eqb (claim_check (claim_from bytes (32 * k))) 0 f))
 
     pub walks-on : (m : Counts) → claim_check (claim_from bytes (32 * k)) ≡ 0 → m ≡ with_one b e n (claim_from bytes (32 * k)) → Walked b e bytes (k + 1) m
     unfolding with_one
@@ -97,13 +100,13 @@ module _ (b e : ℕ) (bytes : List ℕ) where
         })
 
   pub ends : (k : ℕ) (n : Counts) → records bytes ≤ k → Walked b e bytes k n
-      → ◌≡◌ {A = Counted} (record { refused = 0; counts = n }) (counted_of b e (listed_claims bytes))
+      → Ok n ≡ counted_of b e (listed_claims bytes)
   unfolding counted_of counts_of claims_check
   ends k n h w =
       let z : claims_check (listed_claims bytes) ≡ 0 = w.check-is ∙ ap claims_check (claims-end bytes k h) in
       let r = all-passed (recent_in b e) bytes k n.recent h w.recents in
       let a = all-passed (earlier_in b e) bytes k n.earlier h w.earliers in
-      rw z (λ i. record { refused = 0; counts = record { recent = sym r i; earlier = sym a i } })
+      rw z (λ i. Ok (record { recent = sym r i; earlier = sym a i }))
 
 -- one claim more, by the day of its disability
 module _ (b e : ℕ) (n : Counts) (c : Claim) where

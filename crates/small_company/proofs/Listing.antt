@@ -1,6 +1,6 @@
 -- The records of a claim list, one after the other: what stands at a place, and what is left after it.
 -- Assumes nothing.
-use Prim.Native.Nat.{ℕ, suc, ◌+◌, ◌-◌, ◌*◌, ◌/◌, ◌%◌, ◌<◌, ◌≤◌}
+use Prim.Native.Nat.{ℕ, zero, suc, ◌+◌, ◌-◌, ◌*◌, ◌/◌, ◌%◌, ◌<◌, ◌≤◌}
 use mathlib.Core.Path.{◌≡◌, refl, sym, ap, ◌∙◌}
 use mathlib.Core.Bool.{Bool, true, false, ◌&&◌}
 use mathlib.Core.List.{List, [], ◌∷◌}
@@ -12,10 +12,11 @@ use lib.ListN.{length}
 use Rattle.basics.specs.Pick.{pick}
 use Rattle.basics.proofs.Tests.{tests, by, and_right}
 use Rattle.claim_months.specs.declared.Claim.{Claim}
-use Rattle.claim_file.specs.declared.MaybeClaim.TheVariants.{Found, NoRecord}
 use Rattle.claim_file.specs.Record.{claim_from, record_padded}
 use Rattle.claim_file.specs.BlockAnswers.{record_in}
 use Rattle.small_company.specs.SmallCompany.{claims_from_record, listed_claims, padded_from, list_sound}
+use Rattle.std.specs.Prelude.{None, Some, Option, is_some}
+use Rattle.std.specs.List.{range_with_len, list_all}
 
 -- how many records, and the claims and the zero bytes from a record on
 abbrev pub records : List ℕ → ℕ
@@ -66,22 +67,33 @@ module _ (bytes : List ℕ) (k : ℕ) (h : k < records bytes) where
       ∙ ap (λ (j : ℕ). record_padded bytes (32 * k) && padded_from bytes j (records bytes - (k + 1))) (sym (add-one k))
 
   -- reading it: the list has its 32 bytes, so that its zero bytes decide
-  read_at : record_in bytes (32 * k) ≡ pick (record_padded bytes (32 * k)) (Found (claim_from bytes (32 * k))) NoRecord
+  read_at : record_in bytes (32 * k) ≡ pick (record_padded bytes (32 * k)) (Some (claim_from bytes (32 * k))) None
   unfolding record_in
   read_at = rw (le-leb (32 * k + 32) (length bytes) (omega tests))
 
-  pub no_record : NoRecord ≡ record_in bytes (32 * k) → record_padded bytes (32 * k) ≡ false
+  pub no_record : None ≡ record_in bytes (32 * k) → record_padded bytes (32 * k) ≡ false
   no_record e =
-      by (record_padded bytes (32 * k)) (λ t. NoRecord ≡ pick t (Found (claim_from bytes (32 * k))) NoRecord → t ≡ false)
+      by (record_padded bytes (32 * k)) (λ t. None ≡ pick t (Some (claim_from bytes (32 * k))) None → t ≡ false)
       (λ q f. let z : ◌≡◌ {A = ℕ} 0 1 = cc in absurd (omega tests)) (λ q f. refl) (e ∙ read_at)
 
-  pub found : (c : Claim) → Found c ≡ record_in bytes (32 * k) → (record_padded bytes (32 * k) ≡ true) × (c ≡ claim_from bytes (32 * k))
+  pub found : (c : Claim) → Some c ≡ record_in bytes (32 * k) → (record_padded bytes (32 * k) ≡ true) × (c ≡ claim_from bytes (32 * k))
   found c e =
-      by (record_padded bytes (32 * k)) (λ t. Found c ≡ pick t (Found (claim_from bytes (32 * k))) NoRecord → (t ≡ true) × (c ≡ claim_from bytes (32 * k)))
+      by (record_padded bytes (32 * k)) (λ t. Some c ≡ pick t (Some (claim_from bytes (32 * k))) None → (t ≡ true) × (c ≡ claim_from bytes (32 * k)))
       (λ q f. (refl, cc)) (λ q f. let z : ◌≡◌ {A = ℕ} 0 1 = cc in absurd (omega tests)) (e ∙ read_at)
 
-  pub is-record : (c : Claim) → Found c ≡ record_in bytes (32 * k) → record_padded bytes (32 * k) ≡ true
+  pub is-record : (c : Claim) → Some c ≡ record_in bytes (32 * k) → record_padded bytes (32 * k) ≡ true
   is-record c e = (found c e).0
+
+-- the n records from record k on are all read where their zero bytes are zero
+pub all-read : (bytes : List ℕ) (k n : ℕ) → 32 * (k + n) ≤ length bytes
+    → list_all (λ i. is_some (record_in bytes (32 * i))) (range_with_len k n) ≡ padded_from bytes k n
+unfolding padded_from
+all-read bytes k zero h = refl
+all-read bytes k (suc n) h =
+    let here : is_some (record_in bytes (32 * k)) ≡ record_padded bytes (32 * k)
+    = ap (λ (o : Option Claim). is_some o) (read_at bytes k (omega tests))
+    ∙ by (record_padded bytes (32 * k)) (λ t. is_some (pick t (Some (claim_from bytes (32 * k))) None) ≡ t) (λ q. refl) (λ q. refl) in
+    rw (here, all-read bytes (k + 1) n (omega tests), add-one k)
 
 -- the zero bytes of a sound list
 pub list-padded : (bytes : List ℕ) → list_sound bytes ≡ true → padded_left bytes 0 ≡ true

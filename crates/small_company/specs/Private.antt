@@ -1,12 +1,11 @@
 -- What the private functions of this layer answer, in day numbers: b is the first day that counts as within two years, e the valuation date.
-use Rattle.std.specs.Prelude.{ℕ, ◌+◌, Bool, false, ◌&&◌, List, length, leb, ltb, eqb}
+use Rattle.std.specs.Prelude.{ℕ, ◌+◌, Bool, ◌&&◌, List, length, leb, ltb, eqb, Result, Ok, Err}
 use Rattle.basics.specs.Pick.{pick}
 use Rattle.basics.specs.Tables.{table}
 use Rattle.calendar.specs.Calendar.{day_number}
 use Rattle.claim_months.specs.declared.Claim.{Claim}
-use Rattle.small_company.specs.declared.CompanyAnswer.{CompanyAnswer}
+use Rattle.small_company.specs.Company.{CompanyAnswer}
 use Rattle.small_company.specs.declared.Counts.{Counts}
-use Rattle.small_company.specs.declared.Counted.{Counted}
 use Rattle.small_company.specs.SmallCompany.{those, claims_check, first_moved}
 
 -- open, and disabled by the day e: on b or later, or before it
@@ -24,13 +23,10 @@ unfoldable pub with_one : ℕ → ℕ → Counts → Claim → Counts
 with_one b e n c = record { recent = n.recent + pick (recent_in b e c) 1 0; earlier = n.earlier + pick (earlier_in b e c) 1 0 }
 
 -- both counts, or the number of the first check that failed
-unfoldable pub uncounted : ℕ → Counted
-uncounted number = record { refused = number; counts = record { recent = 0; earlier = 0 } }
+unfoldable pub counted_of : ℕ → ℕ → List Claim → Result Counts ℕ
+counted_of b e cs = pick (eqb (claims_check cs) 0) (Ok (counts_of b e cs)) (Err (claims_check cs))
 
-unfoldable pub counted_of : ℕ → ℕ → List Claim → Counted
-counted_of b e cs = pick (eqb (claims_check cs) 0) (record { refused = 0; counts = counts_of b e cs }) (uncounted (claims_check cs))
-
--- the answer for both counts, and a refusal
+-- the answer for both counts
 unfoldable pub exempt_by : Counts → Bool
 exempt_by n = ltb n.recent 50 && ltb n.earlier 200
 
@@ -44,6 +40,3 @@ judged_of n new old =
       group = pick (exempt_by n) 0 (first_moved new old 0 5);
       t = pick (exempt_by n) (table 5 (λ k. 1000000)) new;
     }
-
-unfoldable pub refused_with : ℕ → CompanyAnswer
-refused_with number = record { refused = number; exempt = false; recent = 0; earlier = 0; group = 0; t = table 5 (λ k. 0) }

@@ -8,7 +8,7 @@ use Rattle.calendar.specs.Calendar.{is_date, day_number}
 use Rattle.claim_months.specs.declared.Claim.{Claim}
 use Rattle.claim_months.specs.Claim.{claim_check}
 use Rattle.claim_file.specs.Record.{claim_from, record_padded}
-use Rattle.small_company.specs.declared.CompanyAnswer.{CompanyAnswer}
+use Rattle.small_company.specs.Company.{CompanyAnswer}
 
 -- The claim list: records of 32 bytes, one after the other. The n claims from record k on, and all of them
 unfoldable pub claims_from_record : List ℕ → ℕ → ℕ → List Claim

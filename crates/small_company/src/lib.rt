@@ -1,21 +1,22 @@
 // The small company rule (document 02, No. 14): a carrier with few open claims is exempt and keeps the table.
 #![tactic(auto)]
 
-ghost use Rattle.std.specs.Prelude.{◌≡◌, true, ◌-◌, ◌<◌, ◌≤◌, min, max};
+ghost use Rattle.std.specs.Prelude.{◌≡◌, true, ◌<◌, ◌≤◌};
+ghost use Rattle.basics.specs.Refused.{numbered};
 ghost use Rattle.calendar.specs.Calendar.{is_date};
 ghost use Rattle.small_company.specs.SmallCompany.{list_sound, listed_claims, two_years_before, first_within, moves_far, first_moved, company_of};
-ghost use Rattle.small_company.specs.Private.{with_one, uncounted, counted_of, exempt_by, judged_of, refused_with};
+ghost use Rattle.small_company.specs.Company.{company_by_number};
+ghost use Rattle.small_company.specs.Private.{with_one, counted_of, exempt_by, judged_of};
 
-use basics::refusal;
-use calendar::{Date, Day, MaybeDay};
-use claim_file::MaybeClaim;
+use basics::refusal::Refusal;
+use calendar::{Date, Day};
 use claim_file::record::read_record;
 use claim_months::Claim;
 
-// What a carrier is told: the number refused or 0, whether it is exempt, both counts, the first group that moved far or 0, and five T.
+// What a carrier is told: whether it is exempt, both counts, the first group that moved far or 0, and five T.
+// Kept: group 0 is none, as the definitions and the C call have it; an `Option` lets `Some(0)` stand too, which a further clause would have to bar.
 #[derive(Clone, Copy)]
-pub struct CompanyAnswer {
-    pub refused: u8,
+pub struct Company {
     pub exempt: bool,
     pub recent: u64,
     pub earlier: u64,
@@ -30,13 +31,6 @@ struct Counts {
     earlier: u64,
 }
 
-// Both counts, with the number of the first check that failed or 0.
-#[derive(Clone, Copy)]
-struct Counted {
-    refused: u8,
-    counts: Counts,
-}
-
 // Whether a list is made of records: none in part at its end, and no wrong zero byte.
 fn is_list(bytes: &[u8]) -> bool
     ensures { result ≡ list_sound bytes.now }
@@ -45,12 +39,7 @@ fn is_list(bytes: &[u8]) -> bool
         return false;
     }
     let records = bytes.len() / 32;
-    for place in 0..records {
-        let MaybeClaim::Found(_) = read_record(bytes, 32 * place) else {
-            return false;
-        };
-    }
-    true
+    (0..records).all(|place| read_record(bytes, 32 * place).is_some())
 }
 
 // The same day two years before; 29 February becomes 28.
@@ -58,20 +47,15 @@ fn two_years_before(date: Date) -> Date
     requires { 2 ≤ date.year }
     ensures { result ≡ two_years_before date }
 {
-    let year = date.year - 2;
-    if date.month == 2 {
-        if date.day == 29 {
-            return Date {
-                year,
-                month: 2,
-                day: 28,
-            };
-        }
-    }
+    let day = if date.month == 2 && date.day == 29 {
+        28
+    } else {
+        date.day
+    };
     Date {
-        year,
+        year: date.year - 2,
         month: date.month,
-        day: date.day,
+        day,
     }
 }
 
@@ -83,11 +67,8 @@ fn first_within(date: Date) -> Day
     if date.year < 1952 {
         return Day(0);
     }
-    match calendar::day_number(two_years_before(date)) {
-        MaybeDay::Known(day) => day,
-        // Never: two years before a date from 1952 on there is one.
-        MaybeDay::NoDay => Day(0),
-    }
+    // Never day 0 by this: two years before a date from 1952 on there is one.
+    calendar::day_number(two_years_before(date)).unwrap_or(Day(0))
 }
 
 // Both counts with one more claim.
@@ -97,125 +78,76 @@ fn count_one(counts: Counts, claim: Claim, first: Day, last: Day) -> Counts
     requires earlier_bound { counts.earlier < 18446744073709551615 }
     ensures { result ≡ with_one first.0 last.0 counts claim }
 {
-    let MaybeDay::Known(disabled) = calendar::day_number(claim.disability) else {
+    let Some(disabled) = calendar::day_number(claim.disability) else {
         // Never: the claim passed its checks.
         return counts;
     };
-    if claim.status != 0 {
-        return counts;
-    }
-    if disabled.0 > last.0 {
+    if claim.status != 0 || disabled.0 > last.0 {
         return counts;
     }
     if disabled.0 < first.0 {
         return Counts {
-            recent: counts.recent,
             earlier: counts.earlier + 1,
+            ..counts
         };
     }
     Counts {
         recent: counts.recent + 1,
-        earlier: counts.earlier,
-    }
-}
-
-// No counts, beside the number refused.
-fn uncounted(refused: u8) -> Counted
-    ensures { result ≡ uncounted refused }
-{
-    Counted {
-        refused,
-        counts: Counts {
-            recent: 0,
-            earlier: 0,
-        },
+        ..counts
     }
 }
 
 // Both counts of a list's claims. The first claim that fails a check of its own ends it.
-fn count_claims(bytes: &[u8], first: Day, last: Day) -> Counted
+fn count_claims(bytes: &[u8], first: Day, last: Day) -> Result<Counts, Refusal>
     requires { list_sound bytes.now ≡ true }
-    ensures { result ≡ counted_of first.0 last.0 (listed_claims bytes.now) }
+    ensures { numbered result ≡ counted_of first.0 last.0 (listed_claims bytes.now) }
 {
     let mut counts = Counts {
         recent: 0,
         earlier: 0,
     };
     let count = bytes.len() / 32;
+    // Kept: over `as_chunks::<32>()` the proof that a chunk's claim is the list's claim at its place didn't close.
     for place in 0..count {
-        let MaybeClaim::Found(claim) = read_record(bytes, 32 * place) else {
-            // Never: the list is made of records.
-            return uncounted(refusal::BLOCK);
-        };
-        let refused = claim_months::check::check(claim);
-        if refused != 0 {
-            return uncounted(refused);
-        }
+        // Never refused 11: the list is made of records.
+        let claim = read_record(bytes, 32 * place).ok_or(Refusal::Block)?;
+        claim_months::check::check(claim)?;
         counts = count_one(counts, claim, first, last);
     }
-    Counted { refused: 0, counts }
-}
-
-// The larger of two numbers less the smaller.
-fn difference(a: u64, b: u64) -> u64
-    ensures { result ≡ max a b - min a b }
-{
-    if a < b {
-        return b - a;
-    }
-    a - b
+    Ok(counts)
 }
 
 // Whether ten times the difference of a new T and the old one exceeds the old. Ten times it needn't fit 64 bits.
 fn moves_far(new: u64, old: u64) -> bool
     ensures { result ≡ moves_far new old }
 {
-    difference(new, old) > old / 10
+    new.abs_diff(old) > old / 10
 }
 
 // The first group in which T moves far, or 0.
 fn first_moved(new: [u64; 5], old: [u64; 5]) -> u8
     ensures { result ≡ first_moved new old 0 5 }
 {
-    for place in 0..5 {
-        if moves_far(new[place], old[place]) {
-            return place as u8 + 1;
-        }
+    let mut pairs = new.iter().zip(&old);
+    match pairs.position(|(new, old)| moves_far(*new, *old)) {
+        Some(place) => place as u8 + 1,
+        None => 0,
     }
-    0
 }
 
 // Whether both counts are below their limits.
 fn is_exempt(counts: Counts) -> bool
     ensures { result ≡ exempt_by counts }
 {
-    if counts.recent >= 50 {
-        return false;
-    }
-    counts.earlier < 200
-}
-
-// A refusal: its number and zeros.
-fn refused_with(number: u8) -> CompanyAnswer
-    ensures { result ≡ refused_with number }
-{
-    CompanyAnswer {
-        refused: number,
-        exempt: false,
-        recent: 0,
-        earlier: 0,
-        group: 0,
-        t: [0; 5],
-    }
+    counts.recent < 50 && counts.earlier < 200
 }
 
 // What both counts and the T mean: an exempt carrier gets 1,000,000 for all five T, another the new ones.
-fn judged(counts: Counts, new_t: [u64; 5], old_t: [u64; 5]) -> CompanyAnswer
-    ensures { result ≡ judged_of counts new_t old_t }
+fn judged(counts: Counts, new_t: [u64; 5], old_t: [u64; 5]) -> Company
+    ensures { company_by_number (Ok result) ≡ judged_of counts new_t old_t }
 {
     if is_exempt(counts) {
-        return CompanyAnswer {
-            refused: 0,
+        return Company {
             exempt: true,
             recent: counts.recent,
             earlier: counts.earlier,
@@ -223,8 +155,7 @@ fn judged(counts: Counts, new_t: [u64; 5], old_t: [u64; 5]) -> CompanyAnswer
             t: [1000000; 5],
         };
     }
-    CompanyAnswer {
-        refused: 0,
+    Company {
         exempt: false,
         recent: counts.recent,
         earlier: counts.earlier,
@@ -234,20 +165,19 @@ fn judged(counts: Counts, new_t: [u64; 5], old_t: [u64; 5]) -> CompanyAnswer
 }
 
 // The small company rule for a valuation date, a claim list of records, the five new T and the five now in use.
-pub fn small_company(date: Date, claims: &[u8], new_t: [u64; 5], old_t: [u64; 5]) -> CompanyAnswer
-    ensures { result ≡ company_of date claims.now new_t old_t }
+pub fn small_company(
+    date: Date,
+    claims: &[u8],
+    new_t: [u64; 5],
+    old_t: [u64; 5],
+) -> Result<Company, Refusal>
+    ensures { company_by_number result ≡ company_of date claims.now new_t old_t }
 {
-    let MaybeDay::Known(last) = calendar::day_number(date) else {
-        return refused_with(refusal::DATE);
-    };
+    let last = calendar::day_number(date).ok_or(Refusal::Date)?;
     if !is_list(claims) {
-        return refused_with(refusal::BLOCK);
+        return Err(Refusal::Block);
     }
     let first = first_within(date);
-    let counted = count_claims(claims, first, last);
-    if counted.refused != 0 {
-        return refused_with(counted.refused);
-    }
-    let counts = counted.counts;
-    judged(counts, new_t, old_t)
+    let counts = count_claims(claims, first, last)?;
+    Ok(judged(counts, new_t, old_t))
 }

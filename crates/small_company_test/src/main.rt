@@ -2,9 +2,10 @@
 // the carrier is exempt, both counts, the group told and five T.
 #![tactic(auto)]
 
+use basics::refusal::{Refusal, number_in};
 use claim_file::record::write_record;
 use claim_months::Claim;
-use small_company::{CompanyAnswer, small_company};
+use small_company::{Company, small_company};
 use std::io;
 use test_support::dates::date;
 use test_support::print::{put, put_next, put_number};
@@ -20,18 +21,23 @@ fn main(rt: HostRuntime) -> io::Result<()> {
     bad_claims(&rt)
 }
 
-fn put_answer(rt: &impl Print, answer: CompanyAnswer) -> io::Result<()> {
-    let t = answer.t;
-    put_number(rt, answer.refused as u64)?;
-    put_next(rt, answer.exempt as u64)?;
-    put_next(rt, answer.recent)?;
-    put_next(rt, answer.earlier)?;
-    put_next(rt, answer.group as u64)?;
-    put_next(rt, t[0])?;
-    put_next(rt, t[1])?;
-    put_next(rt, t[2])?;
-    put_next(rt, t[3])?;
-    put_next(rt, t[4])?;
+// A refused list has zeros after its number.
+fn put_answer(rt: &impl Print, answer: Result<Company, Refusal>) -> io::Result<()> {
+    put_number(rt, number_in(answer.err()) as u64)?;
+    let company = answer.unwrap_or(Company {
+        exempt: false,
+        recent: 0,
+        earlier: 0,
+        group: 0,
+        t: [0; 5],
+    });
+    put_next(rt, u64::from(company.exempt))?;
+    put_next(rt, company.recent)?;
+    put_next(rt, company.earlier)?;
+    put_next(rt, company.group as u64)?;
+    for t in company.t {
+        put_next(rt, t)?;
+    }
     put(rt, b"\n")
 }
 
@@ -52,11 +58,12 @@ fn open_claim(disabled: u32) -> Claim {
 
 // A closed one.
 fn closed_claim(disabled: u32, code: u8) -> Claim {
-    let mut claim = open_claim(disabled);
-    claim.termination = date(20991231);
-    claim.status = 1;
-    claim.code = code;
-    claim
+    Claim {
+        termination: date(20991231),
+        status: 1,
+        code,
+        ..open_claim(disabled)
+    }
 }
 
 // A list of three claims.
@@ -71,7 +78,7 @@ fn three(first: Claim, second: Claim, third: Claim) -> [u8; 96] {
 // The answer for a list. In groups 1 to 5 T is moved by nothing, a tenth of the old down, one more, a tenth up, and one more.
 fn ask(rt: &impl Print, valued: u32, claims: &[u8]) -> io::Result<()> {
     let new_t = [1000000, 900000, 899999, 1100000, 1100001];
-    let old_t = [1000000, 1000000, 1000000, 1000000, 1000000];
+    let old_t = [1000000; 5];
     put_answer(rt, small_company(date(valued), claims, new_t, old_t))
 }
 
@@ -89,42 +96,57 @@ fn ask_open(rt: &impl Print, valued: u32, disabled: u32) -> io::Result<()> {
 // The day two years before is within, the day before it is not; nor is the day after the valuation date.
 fn days(rt: &impl Print) -> io::Result<()> {
     ask(rt, 20200630, b"")?;
-    ask_open(rt, 20200630, 20180629)?;
-    ask_open(rt, 20200630, 20180630)?;
-    ask_open(rt, 20200630, 20180701)?;
-    ask_open(rt, 20200630, 20200630)?;
-    ask_open(rt, 20200630, 20200701)?;
-    ask_open(rt, 20991231, 20971230)?;
-    ask_open(rt, 20991231, 20971231)?;
-    ask_open(rt, 20200101, 20171231)?;
-    ask_open(rt, 20200101, 20180101)
+    for (valued, disabled) in [
+        (20200630, 20180629),
+        (20200630, 20180630),
+        (20200630, 20180701),
+        (20200630, 20200630),
+        (20200630, 20200701),
+        (20991231, 20971230),
+        (20991231, 20971231),
+        (20200101, 20171231),
+        (20200101, 20180101),
+    ] {
+        ask_open(rt, valued, disabled)?;
+    }
+    Ok(())
 }
 
 // Two years before 29 February is 28 February, and no other day is moved.
 fn leap_days(rt: &impl Print) -> io::Result<()> {
-    ask_open(rt, 20200229, 20180227)?;
-    ask_open(rt, 20200229, 20180228)?;
-    ask_open(rt, 20200229, 20180301)?;
-    ask_open(rt, 20200228, 20180227)?;
-    ask_open(rt, 20200228, 20180228)?;
-    ask_open(rt, 20220228, 20200227)?;
-    ask_open(rt, 20220228, 20200228)?;
-    ask_open(rt, 20220301, 20200229)?;
-    ask_open(rt, 20220301, 20200301)?;
-    ask_open(rt, 20200329, 20180328)?;
-    ask_open(rt, 20200329, 20180329)?;
-    ask_open(rt, 19520229, 19500227)?;
-    ask_open(rt, 19520229, 19500228)
+    for (valued, disabled) in [
+        (20200229, 20180227),
+        (20200229, 20180228),
+        (20200229, 20180301),
+        (20200228, 20180227),
+        (20200228, 20180228),
+        (20220228, 20200227),
+        (20220228, 20200228),
+        (20220301, 20200229),
+        (20220301, 20200301),
+        (20200329, 20180328),
+        (20200329, 20180329),
+        (19520229, 19500227),
+        (19520229, 19500228),
+    ] {
+        ask_open(rt, valued, disabled)?;
+    }
+    Ok(())
 }
 
 // Every day is within where the one two years before lies before 1950.
 fn first_years(rt: &impl Print) -> io::Result<()> {
-    ask_open(rt, 19500101, 19500101)?;
-    ask_open(rt, 19500101, 19500102)?;
-    ask_open(rt, 19511231, 19500101)?;
-    ask_open(rt, 19520101, 19500101)?;
-    ask_open(rt, 19520102, 19500101)?;
-    ask_open(rt, 19520102, 19500102)
+    for (valued, disabled) in [
+        (19500101, 19500101),
+        (19500101, 19500102),
+        (19511231, 19500101),
+        (19520101, 19500101),
+        (19520102, 19500101),
+        (19520102, 19500102),
+    ] {
+        ask_open(rt, valued, disabled)?;
+    }
+    Ok(())
 }
 
 // Closed claims don't count, whatever closed them.
@@ -192,13 +214,8 @@ fn ask_last(rt: &impl Print, claims: &[u8], new: u64, old: u64) -> io::Result<()
 
 // The first group that moved far is told, and 0 for none. From here on the carrier has 50 recent claims, and is not exempt.
 fn first_groups(rt: &impl Print, claims: &[u8]) -> io::Result<()> {
-    let old_t = [1000000, 1000000, 1000000, 1000000, 1000000];
-    ask_t(
-        rt,
-        claims,
-        [1000000, 1000000, 1000000, 1000000, 1000000],
-        old_t,
-    )?;
+    let old_t = [1000000; 5];
+    ask_t(rt, claims, [1000000; 5], old_t)?;
     ask_t(
         rt,
         claims,
@@ -223,29 +240,39 @@ fn first_groups(rt: &impl Print, claims: &[u8]) -> io::Result<()> {
 
 // Ten times the difference is the old one, or differs from it by less than ten.
 fn differences(rt: &impl Print, claims: &[u8]) -> io::Result<()> {
-    ask_last(rt, claims, 990230, 1100256)?;
-    ask_last(rt, claims, 990230, 1100255)?;
-    ask_last(rt, claims, 20, 19)?;
-    ask_last(rt, claims, 21, 19)?;
-    ask_last(rt, claims, 11, 10)?;
-    ask_last(rt, claims, 10, 9)?;
-    ask_last(rt, claims, 9, 9)?;
-    ask_last(rt, claims, 0, 0)?;
-    ask_last(rt, claims, 1, 0)?;
-    ask_last(rt, claims, 0, 1)
+    for (new, old) in [
+        (990230, 1100256),
+        (990230, 1100255),
+        (20, 19),
+        (21, 19),
+        (11, 10),
+        (10, 9),
+        (9, 9),
+        (0, 0),
+        (1, 0),
+        (0, 1),
+    ] {
+        ask_last(rt, claims, new, old)?;
+    }
+    Ok(())
 }
 
 // T of up to 2^64 - 1, at which ten times a difference needs more bits.
 fn large_numbers(rt: &impl Print, claims: &[u8]) -> io::Result<()> {
-    ask_last(rt, claims, 18446744073709551615, 18446744073709551615)?;
-    ask_last(rt, claims, 18446744073709551615, 0)?;
-    ask_last(rt, claims, 0, 18446744073709551615)?;
-    ask_last(rt, claims, 16602069666338596454, 18446744073709551615)?;
-    ask_last(rt, claims, 16602069666338596453, 18446744073709551615)?;
-    ask_last(rt, claims, 18446744073709551615, 16769767339735956014)?;
-    ask_last(rt, claims, 18446744073709551615, 16769767339735956013)?;
-    ask_last(rt, claims, 3689348814741910324, 1844674407370955162)?;
-    ask_last(rt, claims, 2000000000000000000, 1844674407370955162)
+    for (new, old) in [
+        (u64::MAX, u64::MAX),
+        (u64::MAX, 0),
+        (0, u64::MAX),
+        (16602069666338596454, u64::MAX),
+        (16602069666338596453, u64::MAX),
+        (u64::MAX, 16769767339735956014),
+        (u64::MAX, 16769767339735956013),
+        (3689348814741910324, 1844674407370955162),
+        (2000000000000000000, 1844674407370955162),
+    ] {
+        ask_last(rt, claims, new, old)?;
+    }
+    Ok(())
 }
 
 // A bad valuation date comes before a bad list and a bad claim.
@@ -258,8 +285,8 @@ fn bad_dates(rt: &impl Print) -> io::Result<()> {
 }
 
 fn store(at: usize, byte: u8, bytes: &mut [u8]) {
-    if at < bytes.len() {
-        bytes[at] = byte;
+    if let Some(place) = bytes.get_mut(at) {
+        *place = byte;
     }
 }
 
@@ -297,11 +324,9 @@ fn bad_claims(rt: &impl Print) -> io::Result<()> {
     let mut rich = open_claim(20190630);
     rich.benefit = 201;
     let short = open_claim(20991217);
-    ask_one(rt, 20200630, no_date)?;
-    ask_one(rt, 20200630, no_code)?;
-    ask_one(rt, 20200630, late)?;
-    ask_one(rt, 20200630, rich)?;
-    ask_one(rt, 20200630, short)?;
+    for claim in [no_date, no_code, late, rich, short] {
+        ask_one(rt, 20200630, claim)?;
+    }
     ask(rt, 20200630, &three(sound, short, no_date))?;
     ask(rt, 20200630, &three(sound, rich, short))?;
     ask(rt, 20200630, &three(late, no_code, no_date))?;

@@ -1,8 +1,7 @@
 -- `draw` meets its contract. Assumes nothing.
-use mathlib.Core.Path.{refl}
 use Rattle.load.specs.Load.{draw}
 use Rattle.load.proofs.draw.Goals as goal
 
 pub returns : goal.returns
 unfolding draw
-returns c = refl
+returns c = rw c.from.ensures

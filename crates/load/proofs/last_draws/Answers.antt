@@ -1,6 +1,6 @@
 -- `last_draws` meets its contract: both draws are made before the test. Assumes nothing.
 use Prim.Native.Nat.{ℕ, ◌+◌, ◌%◌}
-use mathlib.Core.Path.{◌≡◌, ap, ◌∙◌}
+use mathlib.Core.Path.{◌≡◌, refl, ap, ◌∙◌}
 use mathlib.Core.Bool.{Bool, true, false}
 use native.Mathlib.Omega.{arith}
 use Rattle.calendar.specs.declared.Date.{Date}
@@ -36,4 +36,4 @@ returns-then-closed c =
 
 pub returns : goal.returns
 returns c =
-    open-end _ _ _ _ _ c.draw-fourth.ensures c.draw-fifth.ensures _ _ _ c.if-closed.false c.no_date.ensures (omega arith) (omega arith)
+    open-end _ _ _ _ _ c.draw-fourth.ensures c.draw-fifth.ensures _ _ _ c.if-closed.false refl (omega arith) (omega arith)

@@ -1,6 +1,6 @@
 -- `loaded` meets its contract: each draw is the next one of x, and the claim is made of the first three and of what the last two give. Assumes nothing.
 use Prim.Native.Nat.{ℕ, ◌+◌, ◌%◌}
-use mathlib.Core.Path.{◌≡◌, ap, ◌∙◌}
+use mathlib.Core.Path.{◌≡◌, refl, ap, ◌∙◌}
 use lib.Dec.{eqb}
 use Rattle.calendar.specs.declared.Date.{Date}
 use Rattle.calendar.specs.Calendar.{date_of}
@@ -55,5 +55,5 @@ pub returns : goal.returns
 returns c =
     let s = c.args in
     is_made s.x s.number c.draw-first.result c.draw-second.result c.draw-third.result _ _ _ c.last_draws-end.result c.date_on.ensures c.date_on-2.ensures
-    c.no_date.ensures c.last_draws-end.ensures
+    refl c.last_draws-end.ensures
     ∙ drawn-five s.x s.number c.draw-first.result c.draw-second.result c.draw-third.result c.draw-first.ensures c.draw-second.ensures c.draw-third.ensures

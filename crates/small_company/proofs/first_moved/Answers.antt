@@ -1,25 +1,27 @@
--- `small_company::first_moved` meets its contract. The loop's invariant: no group passed moved far. Assumes nothing.
-use mathlib.Core.Path.{refl, sym, ◌∙◌}
+-- `small_company::first_moved` meets its contract: the first pair of T that moves far is the first group's. Assumes nothing.
+use Prim.Native.Nat.{◌+◌}
+use mathlib.Core.Path.{◌≡◌, sym, ap, ◌∙◌}
 use native.Mathlib.Omega.{arith}
-use Rattle.small_company.proofs.Moves.{found, passed, none-moved}
+use Rattle.std.proofs.Common.{rules, tests}
+use Rattle.std.specs.List.{zip}
+use Rattle.std.proofs.lemmas.Iterator.{YieldsList-from_slice, YieldsList-from_zip}
+use Rattle.std.proofs.lemmas.Iterator.Search.{position_from_yields_List}
+use Rattle.small_company.specs.SmallCompany.{first_moved}
+use Rattle.small_company.proofs.Moves.{pair_moves, place_in, told, all-pairs}
 use Rattle.small_company.proofs.first_moved.Goals as goal
+use Rattle.small_company.proofs.first_moved.Goals.{After-position}
 
-pub loop-place-init : goal.loop-place-init
-loop-place-init c = (omega arith, refl)
+told-so : (c : After-position) → told 0 c.position.result ≡ first_moved c.args.new c.args.old 0 5
+told-so c =
+    let place-so : c.position.result ≡ place_in (zip c.args.new c.args.old) =
+    position_from_yields_List pair_moves c.position.new.self _ c.position.result c.position.ensures.ran
+    (YieldsList-from_zip (YieldsList-from_slice c.args.new (cc)) (YieldsList-from_slice c.args.old (cc))) (λ x b q k. search (rules, tests)) in
+    ap (told 0) place-so ∙ all-pairs c.args.new c.args.old (omega arith) (omega arith)
 
-pub returns-then-moves_far : goal.returns-then-moves_far
-returns-then-moves_far c =
-    let l = c.loop-place in
-    let f = found _ _ l.place (omega arith) l.invariant.1 (sym c.moves_far.ensures ∙ c.if-moves_far.true) in
+pub returns-in-Some : goal.returns-in-Some
+returns-in-Some c =
+    let t : 0 + c.in-Some.place + 1 ≡ first_moved c.args.new c.args.old 0 5 = ap (told 0) (sym c.in-Some.is) ∙ told-so (goal.at.returns-in-Some c).After-position in
     omega arith
 
-pub loop-place-preserved : goal.loop-place-preserved
-loop-place-preserved c =
-    let l = c.loop-place in
-    (omega arith, passed _ _ l.place (omega arith) l.invariant.1 (sym c.moves_far.ensures ∙ c.if-moves_far.false))
-
-pub returns : goal.returns
-returns c = let l = c.loop-place in none-moved _ _ l.place (omega arith) l.invariant.1
-
-pub moves_far-requires : goal.moves_far-requires
-moves_far-requires c = tt
+pub returns-in-None : goal.returns-in-None
+returns-in-None c = ap (told 0) (sym c.in-None.is) ∙ told-so (goal.at.returns-in-None c).After-position

@@ -9,5 +9,5 @@ use Rattle.small_company.proofs.moves_far.Goals as goal
 pub returns : goal.returns
 returns c =
     let a = c.args in
-    let d = c.difference.ensures in
+    let d = c.abs_diff.ensures in
     by _ (λ t. t ≡ moves_far a.new a.old) (λ q. far a.new a.old (omega tests)) (λ q. not-far a.new a.old (omega tests))

@@ -2,12 +2,15 @@
 use Rattle.basics.proofs.Tests.{tests}
 use Rattle.small_company.proofs.TwoYears.{leap_day, other-day, other-month}
 use Rattle.small_company.proofs.two_years_before.Goals as goal
+use Rattle.small_company.proofs.two_years_before.Goals.{then-date-eq2+then-date-eq29, else-date-eq2, else-date-eq2-via-then-date-eq2+else-date-eq29, else-date-eq2-via-else-date-eq2}
 
-pub returns-then-date-eq29 : goal.returns-then-date-eq29
-returns-then-date-eq29 c = leap_day _ _ (omega tests) (omega tests) (omega tests) (omega tests) (omega tests)
-
-pub returns-else-date-eq29 : goal.returns-else-date-eq29
-returns-else-date-eq29 c = other-day _ _ (omega tests) (omega tests) (λ e. omega tests) (omega tests)
-
-pub returns-else-date-eq2 : goal.returns-else-date-eq2
-returns-else-date-eq2 c = other-month _ _ (omega tests) (omega tests) (λ e. omega tests) (omega tests)
+pub returns : goal.returns
+returns c =
+    elim c.if-date-eq2.branch [
+      | then-date-eq2+then-date-eq29 w ↦ leap_day _ _ (omega tests) (omega tests) (omega tests) (omega tests) (omega tests)
+      | else-date-eq2 w ↦
+          elim w.else-date-eq2.branch [
+            | else-date-eq2-via-then-date-eq2+else-date-eq29 x ↦ other-day _ _ (omega tests) (omega tests) (λ e. omega tests) (omega tests)
+            | else-date-eq2-via-else-date-eq2 x ↦ other-month _ _ (omega tests) (omega tests) (λ e. omega tests) (omega tests)
+          ]
+    ]

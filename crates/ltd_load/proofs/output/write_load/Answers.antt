@@ -1,6 +1,5 @@
 -- `write_load` is safe and ends, and its first block is the file's block 0. Assumes nothing.
 use mathlib.Core.Path.{refl}
-use borrow.Author.Rules.{rules}
 use Rattle.ltd_load.proofs.FileLoop.{is-window}
 use Rattle.ltd_load.proofs.output.write_load.Goals as goal
 

@@ -5,7 +5,6 @@ use mathlib.Core.Bool.{Bool, true}
 use mathlib.Core.List.{List}
 use native.Mathlib.Omega.{arith}
 use lib.ListN.{length, take}
-use borrow.Author.Rules.{rules}
 use borrow.Author.Tests.{le-leb, eq-eqb}
 use Rattle.basics.specs.Pick.{pick}
 use Rattle.claim_file.specs.Block.{bytes_of_block}
@@ -13,7 +12,7 @@ use Rattle.claim_file.specs.BlockAnswers.{write_sound, bytes_after}
 use Rattle.load.specs.Load.{load_from, seed_at}
 use Rattle.ltd_load.specs.declared.LoadedBlock.{LoadedBlock}
 use Rattle.ltd_load.specs.Private.{count_from, BlockFrom}
-use Rattle.ltd_load.proofs.output.put_block.Goals as goal
+use Rattle.ltd_load.proofs.output.DueClaim.put_block.Goals as goal
 
 module _ (due x size number : ℕ) (old : List ℕ) (low : 1 ≤ due) (high : due ≤ 65535) (room : length old ≡ 512) (r : LoadedBlock) (made : BlockFrom x size number r) where
   writes : write_sound due r.block.count (length old) ≡ true
@@ -31,5 +30,5 @@ module _ (due x size number : ℕ) (old : List ℕ) (low : 1 ≤ due) (high : du
 
 pub returns : goal.returns
 returns c =
-    let rest = stored c.args.due _ _ _ c.args.bytes.now c.requires.le_due.0 c.requires.le_due.1 c.requires.bytes_len c.block_from-made.result c.block_from-made.ensures _ c.write.ensures.bytes_after in
+    let rest = stored c.args.number _ _ _ c.args.bytes.now c.requires.0 c.requires.1 c.told-bytes c.block-made.result c.block-made.ensures _ c.write.ensures.bytes_after in
     record { value = rest.0; bytes_after = rest.1 }
