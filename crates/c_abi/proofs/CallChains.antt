@@ -19,7 +19,7 @@ use Rattle.claim_months.specs.declared.Claim.{Claim}
 use Rattle.rates.specs.declared.Kind.{Kind}
 use Rattle.rates.specs.declared.Kind.TheVariants.{Plain, Prepared}
 use Rattle.study.specs.declared.Study.{Study}
-use Rattle.study.specs.declared.Answer.{Answer}
+use Rattle.study.specs.Answers.{Answer}
 use Rattle.study.specs.Study.{opened}
 use Rattle.study.specs.Joining.{joined}
 use Rattle.study.specs.Returned.{Returned, Returns}
@@ -27,8 +27,6 @@ use Rattle.study.proofs.EitherTable.{same-adding}
 use Rattle.study.proofs.PreparedWithdrawing.{same-withdrawing}
 use Rattle.study.proofs.Returned.{calls-return}
 use Rattle.study_list.specs.StudyList.{study_numbers}
-use Rattle.claim_file.specs.declared.MaybeClaim.{MaybeClaim}
-use Rattle.claim_file.specs.declared.MaybeClaim.TheVariants.{Found, NoRecord}
 use Rattle.claim_file.specs.BlockAnswers.{record_in}
 use Rattle.c_abi.specs.declared.Change.{Change}
 use Rattle.c_abi.specs.declared.Change.TheVariants.{Add, Withdraw}
@@ -36,6 +34,7 @@ use Rattle.c_abi.specs.Abi.{date_in}
 use Rattle.c_abi.specs.StudyCalls.{study_form, held_up_to, sums_in, study_in, Taking, changed_by, taken_from, open_answer, open_after, claim_answer, claim_after, join_answer, join_after}
 use Rattle.c_abi.specs.CallChains.{sum_in, Stands, Does, call_taking, CallsStand, Calls, opens, changes, joins, Lent, list_left, lent_to, list_answers, study_left, study_answers, SameChains}
 use Rattle.c_abi.proofs.ClaimAnswers.{no-study, no_record}
+use Rattle.std.specs.Prelude.{None, Option, Some}
 
 -- a number of a study, read from where it stands
 held_at : (most n : ℕ) (x : ℤ) → x ≡ pos n → n ≤ most → held_up_to most x ≡ n
@@ -112,10 +111,10 @@ keeps Withdraw Plain s c table = subst⁻¹ (Returns s) (sym (same-withdrawing.p
 keeps Add Prepared s c table = calls-return.adding Prepared s c table
 keeps Withdraw Prepared s c table = calls-return.withdrawing Prepared s c table
 
-keeps-from : (change : Change) (kind : Kind) (s : Study) (m : MaybeClaim) (table : List ℕ) → Returns s (taken_from (call_taking change kind) s m table)
+keeps-from : (change : Change) (kind : Kind) (s : Study) (m : Option Claim) (table : List ℕ) → Returns s (taken_from (call_taking change kind) s m table)
 unfolding taken_from
-keeps-from change kind s (Found c) table = keeps change kind s c table
-keeps-from change kind s NoRecord table = record { returned = λ r. r; as_given = λ z. refl }
+keeps-from change kind s (Some c) table = keeps change kind s c table
+keeps-from change kind s None table = record { returned = λ r. r; as_given = λ z. refl }
 
 opening : (first last : ℕ) (xs : List ℤ) → 83 ≤ length xs
     → Does xs (open_answer first last xs) (open_after first last xs) (opened (date_in first) (date_in last))
@@ -139,7 +138,7 @@ joining xs ys s t h g =
     rw (le-leb 83 (length xs) h.form, le-leb 83 (length ys) g.form, stands_read xs s h, stands_read ys t g)
     (does xs s (joined s t) h (calls-return.joining s t))
 
-unread : (take : Taking) (xs : List ℤ) (claim table : List ℕ) → record_in claim 0 ≡ NoRecord
+unread : (take : Taking) (xs : List ℤ) (claim table : List ℕ) → record_in claim 0 ≡ None
     → (claim_answer take xs claim table ≡ no_form) × (claim_after take xs claim table ≡ xs)
 unread take xs claim table e =
     by (leb 83 (length xs)) (λ _. (claim_answer take xs claim table ≡ no_form) × (claim_after take xs claim table ≡ xs))

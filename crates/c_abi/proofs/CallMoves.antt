@@ -19,7 +19,6 @@ use Rattle.study.specs.Moves.{moved, moved_all, move_answers, Dates, dates_of, A
 use Rattle.study.specs.Joining.{pool_answer, pool_window, Poolable, PoolsClaims}
 use Rattle.study.proofs.TakenBack.{taken_back}
 use Rattle.study.proofs.Pooling.{pooling}
-use Rattle.claim_file.specs.declared.MaybeClaim.TheVariants.{Found}
 use Rattle.claim_file.specs.BlockAnswers.{record_in}
 use Rattle.c_abi.specs.declared.Change.TheVariants.{Add, Withdraw}
 use Rattle.c_abi.specs.Abi.{date_in}
@@ -30,6 +29,7 @@ use Rattle.c_abi.specs.CallMoves.{CallMove, Recorded, move_of, moves_of, CallAll
 use Rattle.c_abi.proofs.CallChains.{calls-stand}
 use Rattle.c_abi.proofs.CallsAddUp.{record-taken, opens-call, lists_total}
 use Rattle.c_abi.proofs.PartsAlong.{parts-along, total-along, every-along}
+use Rattle.std.specs.Prelude.{Some}
 
 -- what moves leave and answer: the list stands for the study, the numbers are the study's, and the numbers behind the 83rd are as they were
 record Moved (xs ys : List ℤ) (s : Study) (ns ms : List ℕ) : Type 0 where
@@ -38,7 +38,7 @@ record Moved (xs ys : List ℤ) (s : Study) (ns ms : List ℕ) : Type 0 where
   behind : drop 83 ys ≡ drop 83 xs
 
 module _ (kind : Kind) (rates : List ℕ) where
-  one-move : (xs : List ℤ) (s : Study) → Stands xs s → (m : CallMove) → record_in m.bytes 0 ≡ Found m.claim
+  one-move : (xs : List ℤ) (s : Study) → Stands xs s → (m : CallMove) → record_in m.bytes 0 ≡ Some m.claim
       → Does xs (move_answer kind rates xs m) (move_after kind rates xs m) (moved rates s (move_of m))
   unfolding moved call_taking
   one-move xs s h m e =

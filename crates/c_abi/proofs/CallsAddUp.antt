@@ -25,8 +25,6 @@ use Rattle.study.proofs.Algebra.{at, each_at}
 use Rattle.study.proofs.Demand3.{demand-3}
 use Rattle.study.proofs.EitherTable.{same-adding}
 use Rattle.study.proofs.PreparedWithdrawing.{same-withdrawing}
-use Rattle.claim_file.specs.declared.MaybeClaim.{MaybeClaim}
-use Rattle.claim_file.specs.declared.MaybeClaim.TheVariants.{Found}
 use Rattle.claim_file.specs.BlockAnswers.{record_in}
 use Rattle.c_abi.specs.declared.Change.{Change}
 use Rattle.c_abi.specs.declared.Change.TheVariants.{Add, Withdraw}
@@ -36,6 +34,7 @@ use Rattle.c_abi.specs.CallChains.{sum_in, Stands, Does, call_taking}
 use Rattle.c_abi.specs.CallsAddUp.{table_of, add_answer, add_after, CallRun, study_run, call_window, CallOpens, record_at, RecordsOf, list_after, list_given_to, last_list, list_given_at, call_answer_at, list_change, CallCounts, CallLeaves, CallWeighs, CallsAddUp, CallsDemand3}
 use Rattle.c_abi.proofs.CallChains.{calls-stand}
 use Rattle.c_abi.proofs.PartsAlong.{parts-along, total-along, every-along, none-along, one_along}
+use Rattle.std.specs.Prelude.{Option, Some}
 
 -- with the table of either kind a claim is taken as with the rates
 same-taking : (change : Change) (kind : Kind) (rates : List ℕ) (s : Study) (c : Claim)
@@ -47,7 +46,7 @@ same-taking Withdraw Prepared rates s c = same-withdrawing.prepared s c rates
 
 -- the record of a claim is taken as the claim
 pub record-taken : (change : Change) (kind : Kind) (rates : List ℕ) (xs : List ℤ) (s : Study) (bytes : List ℕ) (c : Claim) → Stands xs s
-    → record_in bytes 0 ≡ Found c
+    → record_in bytes 0 ≡ Some c
     → Does xs (claim_answer (call_taking change kind) xs bytes (table_of kind rates)) (claim_after (call_taking change kind) xs bytes (table_of kind rates))
     (call_taking change Plain s c rates)
 unfolding taken_from
@@ -55,7 +54,7 @@ record-taken change kind rates xs s bytes c h e =
     let take = call_taking change kind in
     let table = table_of kind rates in
     subst (Does xs (claim_answer take xs bytes table) (claim_after take xs bytes table))
-    (ap (λ (m : MaybeClaim). taken_from take s m table) e ∙ same-taking change kind rates s c) (calls-stand.changing change kind xs s bytes table h)
+    (ap (λ (m : Option Claim). taken_from take s m table) e ∙ same-taking change kind rates s c) (calls-stand.changing change kind xs s bytes table h)
 
 -- where ltd_open answers 0 the list was long enough, and opening answers 0
 pub opens-call : (first last : ℕ) (xs : List ℤ) → open_answer first last xs ≡ 0 → (83 ≤ length xs) × ((opened (date_in first) (date_in last)).refused ≡ 0)

@@ -4,7 +4,7 @@ use mathlib.Core.Path.{◌≡◌, ap, ◌∙◌}
 use mathlib.Core.List.{List}
 use lib.IntN.{ℤ}
 use lib.Seq.{sets}
-use Rattle.claim_file.specs.declared.CorrectedRun.{CorrectedRun}
+use Rattle.claim_file.specs.Runs.{CorrectedRun}
 use Rattle.claim_file.proofs.SameRuns.{same_runs}
 use Rattle.study_list.specs.Lent.{answered, stored}
 use Rattle.c_abi.specs.CorrectedCalls.{corrected_numbers, SameCorrected}

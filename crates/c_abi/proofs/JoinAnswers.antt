@@ -1,14 +1,16 @@
 -- Which tests lead to which answer of `ltd_join`, and to what in the list.
 -- Assumes nothing.
 use Prim.Native.Nat.{ℕ, ◌≤◌, ◌<◌}
-use mathlib.Core.Path.{◌≡◌, sym, ap, ◌∙◌}
+use mathlib.Core.Path.{◌≡◌, ap, ◌∙◌}
 use mathlib.Core.Bool.{and-false}
 use mathlib.Core.List.{List}
 use lib.IntN.{ℤ}
 use lib.ListN.{length}
 use lib.Seq.{sets}
-use borrow.Author.Tests.{eq-eqb, ne_eqb, le-leb, lt-leb}
-use Rattle.study.specs.declared.Answer.{Answer}
+use lib.Dec.{eqb}
+use Rattle.basics.specs.Pick.{pick}
+use borrow.Author.Tests.{ne_eqb, le-leb, lt-leb}
+use Rattle.study.specs.Answers.{Answer}
 use Rattle.study.specs.Joining.{joined}
 use Rattle.basics.proofs.Tests.{tests}
 use Rattle.study_list.specs.StudyList.{study_numbers}
@@ -33,11 +35,8 @@ module _ (xs ys : List ℤ) where
     unfolding join_answer study_form
     answer-is = ap (λ (b : Answer). b.refused) e ∙ rw (le-leb 83 (length xs) f, le-leb 83 (length ys) g)
 
-    pub refused : (a.refused ≡ 0 → ⊥) → (a.refused ≡ join_answer xs ys) × (xs ≡ join_after xs ys)
-    refused h = left a.refused answer-is h
-
-    pub taken : a.refused ≡ 0 → (l : List ℤ) → l ≡ sets xs 0 (study_numbers a.study) → (0 ≡ join_answer xs ys) × (l ≡ join_after xs ys)
+    -- an answer that is not refused is stored
+    pub stored : (n : ℕ) (l : List ℤ) → n ≡ a.refused → l ≡ pick (eqb a.refused 0) (sets xs 0 (study_numbers a.study)) xs
+        → (n ≡ join_answer xs ys) × (l ≡ join_after xs ys)
     unfolding join_after
-    taken z l p =
-        let n : join_answer xs ys ≡ 0 = sym answer-is ∙ z in
-        (sym n, p ∙ ap (λ (b : Answer). sets xs 0 (study_numbers b.study)) e ∙ rw (eq-eqb (join_answer xs ys) 0 n))
+    stored n l p q = (p ∙ answer-is, q ∙ (λ i. pick (eqb (answer-is i) 0) (sets xs 0 (study_numbers (e i).study)) xs))

@@ -1,16 +1,15 @@
 -- A list stands for its study: on lists that do, each call answers and leaves what the call on the studies does, and so does every chain of calls.
 -- `proofs/CallChains.antt` proves `CallsStand` and `SameChains`.
-use Rattle.std.specs.Prelude.{ℕ, ◌+◌, ◌≤◌, ◌<◌, ◌≡◌, List, [], ◌∷◌, ◌++◌, length, get_or, drop, ℤ, pos}
+use Rattle.std.specs.Prelude.{ℕ, ◌+◌, ◌≤◌, ◌<◌, ◌≡◌, List, [], ◌∷◌, ◌++◌, length, get_or, drop, ℤ, pos, None}
 use Rattle.basics.specs.Limits.{no_form}
 use Rattle.rates.specs.declared.Kind.{Kind}
 use Rattle.rates.specs.declared.Kind.TheVariants.{Plain, Prepared}
 use Rattle.study.specs.declared.Study.{Study}
-use Rattle.study.specs.declared.Answer.{Answer}
+use Rattle.study.specs.Answers.{Answer}
 use Rattle.study.specs.Study.{opened, added}
 use Rattle.study.specs.Withdrawing.{withdrawn}
 use Rattle.study.specs.Joining.{joined}
 use Rattle.study.specs.Returned.{Returned}
-use Rattle.claim_file.specs.declared.MaybeClaim.TheVariants.{NoRecord}
 use Rattle.claim_file.specs.BlockAnswers.{record_in}
 use Rattle.c_abi.specs.declared.Change.{Change}
 use Rattle.c_abi.specs.declared.Change.TheVariants.{Add, Withdraw}
@@ -54,7 +53,7 @@ pub record CallsStand : Type 0 where
       (taken_from (call_taking change kind) s (record_in claim 0) table)
   pub joining : (xs ys : List ℤ) (s t : Study) → Stands xs s → Stands ys t → Does xs (join_answer xs ys) (join_after xs ys) (joined s t)
   -- bytes that are no record are answered 255, on any list, and the list stays as it is
-  pub no_record : (change : Change) (kind : Kind) (xs : List ℤ) (claim table : List ℕ) → record_in claim 0 ≡ NoRecord
+  pub no_record : (change : Change) (kind : Kind) (xs : List ℤ) (claim table : List ℕ) → record_in claim 0 ≡ None
       → (claim_answer (call_taking change kind) xs claim table ≡ no_form) × (claim_after (call_taking change kind) xs claim table ≡ xs)
 
 -- A chain of calls: ltd_open on a lent list; adding or withdrawing, on what a chain left; ltd_join of what two chains left

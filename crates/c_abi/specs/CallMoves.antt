@@ -1,6 +1,6 @@
 -- Moves and pools by the C calls: what `TakenBack` and `Pooling` of `crates/study/specs` say of studies and claims, of lists of numbers and records of bytes.
 -- `proofs/CallMoves.antt` proves `CallsTakenBack` and `CallsPool`.
-use Rattle.std.specs.Prelude.{ℕ, ◌≤◌, ◌<◌, ◌≡◌, Bool, List, [], ◌∷◌, length, drop, leb, ℤ, ◌+ℤ◌}
+use Rattle.std.specs.Prelude.{ℕ, ◌≤◌, ◌<◌, ◌≡◌, Bool, List, [], ◌∷◌, length, drop, leb, ℤ, ◌+ℤ◌, Some}
 use Rattle.basics.specs.Pick.{pick}
 use Rattle.basics.specs.Limits.{most_claims}
 use Rattle.basics.specs.Checks.{refuse_full}
@@ -11,7 +11,6 @@ use Rattle.rates.specs.declared.Kind.{Kind}
 use Rattle.study.specs.Study.{study_of, opened}
 use Rattle.study.specs.Moves.{Move, remaining, Allowed, due_answers, Dates, dates_of}
 use Rattle.study.specs.Joining.{added_all, SameClaims, Pool, pool_claims, pool_window}
-use Rattle.claim_file.specs.declared.MaybeClaim.TheVariants.{Found}
 use Rattle.claim_file.specs.BlockAnswers.{record_in}
 use Rattle.c_abi.specs.declared.Change.{Change}
 use Rattle.c_abi.specs.declared.Change.TheVariants.{Add, Withdraw}
@@ -28,7 +27,7 @@ pub record CallMove : Type 0 where
 
 unfoldable pub Recorded : List CallMove → Type 0
 Recorded [] = Unit {0}
-Recorded (m ∷ ms) = (record_in m.bytes 0 ≡ Found m.claim) × Recorded ms
+Recorded (m ∷ ms) = (record_in m.bytes 0 ≡ Some m.claim) × Recorded ms
 
 -- the moves of claims
 abbrev pub move_of : CallMove → Move

@@ -1,6 +1,6 @@
 -- Demand 3 of the C calls themselves, word for word: `CallsAddUp` says of ltd_open and ltd_add, and of ltd_open and ltd_prepared_add, on lists of numbers and
 -- records of bytes, what `AddsUp` of `crates/study/specs/Demand3.antt` says of studies and claims. `proofs/CallsAddUp.antt` proves it.
-use Rattle.std.specs.Prelude.{ℕ, ◌+◌, ◌≤◌, ◌<◌, ◌≡◌, true, false, List, [], ◌∷◌, ◌⊎◌, length, get_or, drop, eqb, ℤ, pos, ◌+ℤ◌, ◌-ℤ◌, ◌*ℤ◌}
+use Rattle.std.specs.Prelude.{ℕ, ◌+◌, ◌≤◌, ◌<◌, ◌≡◌, true, false, List, [], ◌∷◌, ◌⊎◌, length, get_or, drop, eqb, ℤ, pos, ◌+ℤ◌, ◌-ℤ◌, ◌*ℤ◌, None, Some}
 use Rattle.basics.specs.Pick.{pick}
 use Rattle.basics.specs.Limits.{most_claims, no_form}
 use Rattle.claim_months.specs.declared.Claim.{Claim}
@@ -13,7 +13,6 @@ use Rattle.rates.specs.Prepared.{prepared_of}
 use Rattle.study.specs.Sums.{ClosingPlace}
 use Rattle.study.specs.Study.{own_refusal, accepted, study_of}
 use Rattle.study.specs.Demand3.{StudyRun, run_window, IsOrder, nth_claim, closes_in}
-use Rattle.claim_file.specs.declared.MaybeClaim.TheVariants.{Found, NoRecord}
 use Rattle.claim_file.specs.BlockAnswers.{record_in}
 use Rattle.c_abi.specs.declared.Change.TheVariants.{Add}
 use Rattle.c_abi.specs.Abi.{date_in}
@@ -55,7 +54,7 @@ abbrev pub record_at : List (List ℕ) → ℕ → List ℕ
 record_at records i = get_or records i []
 
 abbrev pub RecordsOf : List (List ℕ) → List Claim → Type 0
-RecordsOf records claims = (i : ℕ) → i < length claims → record_in (record_at records i) 0 ≡ Found (nth_claim claims i)
+RecordsOf records claims = (i : ℕ) → i < length claims → record_in (record_at records i) 0 ≡ Some (nth_claim claims i)
 
 -- the list after the calls of an order, and the list that the call of place i is lent: each call gets the list that the one before it left
 unfoldable pub list_after : Kind → List ℕ → List (List ℕ) → List ℤ → List ℕ → List ℤ
@@ -130,5 +129,5 @@ pub record CallsDemand3 : Type 0 where
       → Parts (CallOpens (length claims)) call_window (call_window whole).first.0 (call_window whole).last.0 part parts
       → CallsAddUp kind rates records claims whole part parts
   -- bytes that are no record are answered 255 by every list, which stays as it is: so they may stand anywhere among the calls
-  pub no_record : (kind : Kind) (rates : List ℕ) (xs : List ℤ) (bytes : List ℕ) → record_in bytes 0 ≡ NoRecord
+  pub no_record : (kind : Kind) (rates : List ℕ) (xs : List ℤ) (bytes : List ℕ) → record_in bytes 0 ≡ None
       → (add_answer kind rates xs bytes ≡ no_form) × (add_after kind rates xs bytes ≡ xs)

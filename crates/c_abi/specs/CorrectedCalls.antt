@@ -4,7 +4,7 @@ use Rattle.std.specs.Prelude.{ℕ, ◌≡◌, List, ℤ}
 use Rattle.std.proofs.lemmas.List.Edits.{sets}
 use Rattle.rates.specs.declared.Kind.TheVariants.{Prepared}
 use Rattle.rates.specs.Prepared.{prepared_of}
-use Rattle.claim_file.specs.declared.CorrectedRun.{CorrectedRun}
+use Rattle.claim_file.specs.Runs.{CorrectedRun}
 use Rattle.claim_file.specs.Corrections.{corrected_run_with, corrected_run}
 use Rattle.claim_file.specs.PreparedRuns.{adding_with}
 use Rattle.study_list.specs.Lent.{answered, stored}

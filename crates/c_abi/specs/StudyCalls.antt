@@ -1,6 +1,6 @@
 -- The calls on a study that is a lent list of numbers: ltd_open, ltd_add, ltd_withdraw and ltd_join, and ltd_prepared_add and ltd_prepared_withdraw.
 -- `proofs/StudyCalls.antt` proves `ListStands` and `SameCalls`.
-use Rattle.std.specs.Prelude.{ℕ, ◌+◌, ◌≤◌, ◌≡◌, Bool, ◌&&◌, List, ◌++◌, length, get_or, leb, eqb, ℤ, pos, negsuc}
+use Rattle.std.specs.Prelude.{ℕ, ◌+◌, ◌≤◌, ◌≡◌, Bool, ◌&&◌, List, ◌++◌, length, get_or, leb, eqb, ℤ, pos, negsuc, None, Option, Some}
 use Rattle.std.proofs.lemmas.List.Edits.{sets}
 use Rattle.basics.specs.Pick.{pick}
 use Rattle.basics.specs.Limits.{most_claims, no_form}
@@ -11,14 +11,12 @@ use Rattle.rates.specs.declared.Kind.{Kind}
 use Rattle.rates.specs.declared.Kind.TheVariants.{Prepared}
 use Rattle.rates.specs.Prepared.{prepared_of}
 use Rattle.study.specs.declared.Study.{Study}
-use Rattle.study.specs.declared.Answer.{Answer}
+use Rattle.study.specs.Answers.{Answer}
 use Rattle.study.specs.Study.{opened, added}
 use Rattle.study.specs.Joining.{joined}
 use Rattle.study.specs.PreparedAdding.{added_with}
 use Rattle.study.specs.Withdrawing.{withdrawn}
 use Rattle.study.specs.PreparedWithdrawing.{withdrawn_with}
-use Rattle.claim_file.specs.declared.MaybeClaim.{MaybeClaim}
-use Rattle.claim_file.specs.declared.MaybeClaim.TheVariants.{Found, NoRecord}
 use Rattle.claim_file.specs.BlockAnswers.{record_in}
 use Rattle.study_list.specs.Lent.{answered, stored}
 use Rattle.study_list.specs.StudyList.{study_numbers}
@@ -76,9 +74,9 @@ changed_by Add kind s c table = added_with kind s c table
 changed_by Withdraw kind s c table = withdrawn_with kind s c table
 
 -- the same of the claim of a record: 255 where the list has no record
-unfoldable pub taken_from : Taking → Study → MaybeClaim → List ℕ → Answer
-taken_from take s (Found c) rates = take s c rates
-taken_from take s NoRecord rates = record { refused = no_form; study = s }
+unfoldable pub taken_from : Taking → Study → Option Claim → List ℕ → Answer
+taken_from take s (Some c) rates = take s c rates
+taken_from take s None rates = record { refused = no_form; study = s }
 
 -- ltd_add, ltd_withdraw and the calls with a prepared table: 255 for a study or a record that has not its form; the list afterwards, untouched by any refusal
 unfoldable pub claim_answer : Taking → List ℤ → List ℕ → List ℕ → ℕ

@@ -1,26 +1,25 @@
 // The call for the small company rule. A claim list is records of a claim file, one after the other.
 ghost use Rattle.std.specs.Prelude.{◌≡◌, ◌≤◌, length};
 ghost use Rattle.std.proofs.lemmas.List.Edits.{sets};
+ghost use Rattle.small_company.specs.Company.{company_by_number};
 ghost use Rattle.small_company.specs.SmallCompany.{company_of};
 ghost use Rattle.c_abi.specs.Abi.{date_in};
 ghost use Rattle.c_abi.specs.CompanyCalls.{company_answered, company_numbers, company_after};
 
-use crate::factors::{five, put_five};
 use crate::listing::date_in;
 use basics::limits::NO_FORM;
-use small_company::CompanyAnswer;
+use small_company::Company;
 
 // Stores what a carrier is told from the first place on.
-fn put_company(answer: CompanyAnswer, out: &mut [u64])
+fn put_company(company: Company, out: &mut [u64])
     requires { 9 ≤ length out.old }
-    ensures { out.new ≡ sets out.old 0 (company_numbers answer) }
+    ensures { out.new ≡ sets out.old 0 (company_numbers (company_by_number (Ok company))) }
 {
-    let t = answer.t;
-    out[0] = answer.exempt as u64;
-    out[1] = answer.recent;
-    out[2] = answer.earlier;
-    out[3] = answer.group as u64;
-    put_five(t, 4, out);
+    out[0] = u64::from(company.exempt);
+    out[1] = company.recent;
+    out[2] = company.earlier;
+    out[3] = u64::from(company.group);
+    out[4..9].copy_from_slice(&company.t);
 }
 
 // Whether a carrier is exempt, both counts, the first group that moved far, and five T.
@@ -35,19 +34,20 @@ pub extern "C" fn ltd_small_company(
     ensures value { result ≡ company_answered new_t.now old_t.now out.old (company_of (date_in date) claims.now new_t.now old_t.now) }
     ensures out_after { out.new ≡ company_after new_t.now old_t.now out.old (company_of (date_in date) claims.now new_t.now old_t.now) }
 {
-    if new_t.len() != 5 {
+    let Ok(new_t) = <[u64; 5]>::try_from(new_t) else {
         return NO_FORM;
-    }
-    if old_t.len() != 5 {
+    };
+    let Ok(old_t) = <[u64; 5]>::try_from(old_t) else {
         return NO_FORM;
-    }
+    };
     if out.len() < 9 {
         return NO_FORM;
     }
-    let answer = small_company::small_company(date_in(date), claims, five(new_t), five(old_t));
-    if answer.refused != 0 {
-        return answer.refused;
+    match small_company::small_company(date_in(date), claims, new_t, old_t) {
+        Ok(company) => {
+            put_company(company, out);
+            0
+        }
+        Err(refusal) => u8::from(refusal),
     }
-    put_company(answer, out);
-    0
 }

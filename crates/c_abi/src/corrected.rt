@@ -8,17 +8,19 @@ ghost use Rattle.claim_file.specs.PreparedRuns.{adding_with};
 ghost use Rattle.study_list.specs.Lent.{answered, stored};
 ghost use Rattle.c_abi.specs.CorrectedCalls.{corrected_numbers};
 
+use claim_file::RunEnd;
 use rates::Kind;
 use study_list::put_placed;
 
 // The study of a whole claim file with corrections, with a table of either kind.
+// Kept: what it answers is the C call's number, and 255 is no `Refusal`.
 fn corrected_study(kind: Kind, table: &[u32], file: &[u8], out: &mut [i64]) -> u8
     ensures value { result ≡ answered 86 out.old (corrected_run_with (adding_with kind table.now) file.now).refused }
     ensures out_after { out.new ≡ stored 86 out.old (sets out.old 0 (corrected_numbers (corrected_run_with (adding_with kind table.now) file.now))) }
 {
     let run = claim_file::corrections::run_corrected_with(kind, table, file);
-    let study = run.study;
-    put_placed(study, run.refused, run.block, run.place, out)
+    let end = RunEnd::from(run.stop);
+    put_placed(run.study, end.number, end.block, end.place, out)
 }
 
 // The study of a whole claim file with corrections.

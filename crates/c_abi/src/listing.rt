@@ -4,11 +4,10 @@ ghost use Rattle.claim_file.specs.BlockAnswers.{record_in};
 ghost use Rattle.c_abi.specs.Abi.{date_in};
 ghost use Rattle.c_abi.specs.RecordCalls.{listing_answer, listing_after};
 
+use crate::answers::{NO_FORM_NUMBER, number_answered};
 use calendar::Date;
-use claim_file::MaybeClaim;
-use claim_months::Listed;
 
-// A date from its number.
+// A date from its number. Kept: `From` of a date of `calendar` can't stand in this crate.
 pub(crate) fn date_in(number: u32) -> Date
     ensures { result ≡ date_in number }
 {
@@ -25,11 +24,8 @@ pub extern "C" fn ltd_listing(first: u32, last: u32, claim: &[u8], list: &mut [i
     ensures value { result ≡ listing_answer (date_in first) (date_in last) (record_in claim.now 0) (length list.old) }
     ensures list_after { list.new ≡ listing_after (date_in first) (date_in last) (record_in claim.now 0) list.old }
 {
-    let MaybeClaim::Found(read) = claim_file::record::read_record(claim, 0) else {
-        return 4294967551;
+    let Some(read) = claim_file::record::read_record(claim, 0) else {
+        return NO_FORM_NUMBER;
     };
-    match claim_months::listing::list_months(date_in(first), date_in(last), read, list) {
-        Listed::Months(months) => months as u64,
-        Listed::Refused(refused) => 4294967296 + refused as u64,
-    }
+    number_answered(claim_months::listing::list_months(date_in(first), date_in(last), read, list))
 }

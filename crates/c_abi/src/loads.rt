@@ -5,7 +5,6 @@ ghost use Rattle.c_abi.specs.LoadCalls.{step_answered, reached_after, record_aft
 
 use basics::limits::NO_FORM;
 use claim_file::record::write_record;
-use load::MaybeLoaded;
 
 // The claim with the number due, as its record, and the x reached, or 20.
 #[unsafe(no_mangle)]
@@ -20,18 +19,15 @@ pub extern "C" fn ltd_load_claim(
     ensures x_out_after { x_out.new ≡ reached_after x_out.old claim.old (load_step x size number) }
     ensures claim_after { claim.new ≡ record_after x_out.old claim.old (load_step x size number) }
 {
-    if x_out.len() < 1 {
-        return NO_FORM;
-    }
-    if claim.len() < 32 {
+    if x_out.len() < 1 || claim.len() < 32 {
         return NO_FORM;
     }
     match load::load_claim(x, size, number) {
-        MaybeLoaded::Loaded(step) => {
+        Ok(step) => {
             x_out[0] = step.x;
             write_record(step.claim, 0, claim);
             0
         }
-        MaybeLoaded::Refused(refused) => refused,
+        Err(refusal) => u8::from(refusal),
     }
 }

@@ -1,16 +1,21 @@
 // The calls that open a study, add a claim to it or withdraw one, with plain rates or a prepared table, and join two studies. A study is a lent list of 83 numbers, a claim the record of a claim file.
-ghost use Rattle.std.specs.Prelude.{◌≡◌, ◌≤◌, length};
+ghost use Rattle.std.specs.Prelude.{◌≡◌, ◌≤◌, length, eqb};
+ghost use Rattle.std.proofs.lemmas.List.Edits.{sets};
 ghost use Rattle.rates.specs.declared.Kind.TheVariants.{Prepared};
+ghost use Rattle.basics.specs.Pick.{pick};
+ghost use Rattle.basics.specs.Refused.{number_in};
+ghost use Rattle.study.specs.Answers.{by_number};
 ghost use Rattle.study.specs.Study.{added};
 ghost use Rattle.study.specs.Withdrawing.{withdrawn};
+ghost use Rattle.study_list.specs.StudyList.{study_numbers};
 ghost use Rattle.c_abi.specs.declared.Change.TheVariants.{Add, Withdraw};
 ghost use Rattle.c_abi.specs.StudyCalls.{held_up_to, sums_in, study_in, open_answer, open_after, changed_by, claim_answer, claim_after, join_answer, join_after};
 
 use crate::Change;
 use crate::listing::date_in;
 use basics::limits::{MOST_CLAIMS, NO_FORM};
+use basics::refusal::number_in;
 use calendar::{Day, LAST_DAY};
-use claim_file::MaybeClaim;
 use claim_months::{Claim, Window};
 use rates::Kind;
 use study::{Answer, Study};
@@ -21,13 +26,7 @@ fn held_up_to(most: u32, x: i64) -> u32
     requires { most ≤ 1000000 }
     ensures { result ≡ held_up_to most x }
 {
-    if x < 0 {
-        return most + 1;
-    }
-    if x > most as i64 {
-        return most + 1;
-    }
-    x as u32
+    u32::try_from(x).unwrap_or(u32::MAX).min(most + 1)
 }
 
 // The sums that stand in a study's list.
@@ -36,9 +35,7 @@ fn sums_in(list: &[i64]) -> [i64; 80]
     ensures { result ≡ sums_in list.now }
 {
     let mut sums = [0; 80];
-    for place in 0..80 {
-        sums[place] = list[place + 3];
-    }
+    sums.copy_from_slice(&list[3..83]);
     sums
 }
 
@@ -70,14 +67,13 @@ pub extern "C" fn ltd_open(first: u32, last: u32, study: &mut [i64]) -> u8
         return NO_FORM;
     }
     let answer = Study::open(date_in(first), date_in(last));
-    let found = answer.study;
-    put_study(found, 0, study);
-    answer.refused
+    put_study(answer.study, 0, study);
+    number_in(answer.refused)
 }
 
 // What a study makes of a claim, with a table of either kind.
 fn changed(change: Change, kind: Kind, study: Study, claim: Claim, table: &[u32]) -> Answer
-    ensures { result ≡ changed_by change kind study claim table.now }
+    ensures { by_number result ≡ changed_by change kind study claim table.now }
 {
     match change {
         Change::Add => study.add_with(kind, table, claim),
@@ -85,7 +81,21 @@ fn changed(change: Change, kind: Kind, study: Study, claim: Claim, table: &[u32]
     }
 }
 
+// Stores the study of an answer that is not refused, and answers the number.
+// Kept: what it answers is the C call's number, as `join_answer` and `claim_answer` tell it.
+fn put_answer(answer: Answer, study: &mut [i64]) -> u8
+    requires { 83 ≤ length study.old }
+    ensures value { result ≡ number_in answer.refused }
+    ensures study_after { study.new ≡ pick (eqb (number_in answer.refused) 0) (sets study.old 0 (study_numbers answer.study)) study.old }
+{
+    if answer.refused.is_none() {
+        put_study(answer.study, 0, study);
+    }
+    number_in(answer.refused)
+}
+
 // Changes a study by the claim of a record.
+// Kept: what it answers is the C call's number, and 255 is no `Refusal`.
 fn change_study(change: Change, kind: Kind, study: &mut [i64], claim: &[u8], table: &[u32]) -> u8
     ensures value { result ≡ claim_answer (changed_by change kind) study.old claim.now table.now }
     ensures study_after { study.new ≡ claim_after (changed_by change kind) study.old claim.now table.now }
@@ -93,16 +103,10 @@ fn change_study(change: Change, kind: Kind, study: &mut [i64], claim: &[u8], tab
     if study.len() < 83 {
         return NO_FORM;
     }
-    let MaybeClaim::Found(read) = claim_file::record::read_record(claim, 0) else {
+    let Some(read) = claim_file::record::read_record(claim, 0) else {
         return NO_FORM;
     };
-    let answer = changed(change, kind, study_in(study), read, table);
-    if answer.refused != 0 {
-        return answer.refused;
-    }
-    let after = answer.study;
-    put_study(after, 0, study);
-    0
+    put_answer(changed(change, kind, study_in(study), read, table), study)
 }
 
 // Adds a claim to a study.
@@ -153,11 +157,5 @@ pub extern "C" fn ltd_join(study: &mut [i64], other: &[i64]) -> u8
     if other.len() < 83 {
         return NO_FORM;
     }
-    let pool = study_in(study).join(study_in(other));
-    if pool.refused != 0 {
-        return pool.refused;
-    }
-    let after = pool.study;
-    put_study(after, 0, study);
-    0
+    put_answer(study_in(study).join(study_in(other)), study)
 }

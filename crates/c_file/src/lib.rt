@@ -8,20 +8,23 @@ ghost use Rattle.rates.specs.declared.Kind.TheVariants.{Prepared};
 ghost use Rattle.rates.specs.Prepared.{prepare_check, prepare_after};
 ghost use Rattle.claim_file.specs.Run.{file_run_with, file_run};
 ghost use Rattle.claim_file.specs.PreparedRuns.{adding_with};
+ghost use Rattle.claim_file.specs.Runs.{run_by_number};
 ghost use Rattle.study_list.specs.Lent.{answered, stored};
 ghost use Rattle.c_file.specs.FileCalls.{run_numbers};
 
-use claim_file::FileRun;
+use basics::refusal::number_refused;
+use claim_file::{FileRun, RunEnd};
 use rates::Kind;
 use study_list::put_placed;
 
 // Stores number, block and place of a run, and its study, and answers the number.
+// Kept: what it answers is the C call's number, and 255 is no `Refusal`. Its twin in `c_abi` is of another type of run: what both share is `put_placed`.
 fn put_run(run: FileRun, out: &mut [i64]) -> u8
-    ensures value { result ≡ answered 86 out.old run.refused }
-    ensures out_after { out.new ≡ stored 86 out.old (sets out.old 0 (run_numbers run)) }
+    ensures value { result ≡ answered 86 out.old (run_by_number run).refused }
+    ensures out_after { out.new ≡ stored 86 out.old (sets out.old 0 (run_numbers (run_by_number run))) }
 {
-    let study = run.study;
-    put_placed(study, run.refused, run.block, run.place, out)
+    let end = RunEnd::from(run.stop);
+    put_placed(run.study, end.number, end.block, end.place, out)
 }
 
 // The study of a whole claim file.
@@ -39,7 +42,7 @@ pub extern "C" fn ltd_prepare(table: &mut [u32]) -> u8
     ensures value { result ≡ prepare_check table.old }
     ensures table_after { table.new ≡ prepare_after table.old }
 {
-    rates::prepared::prepare(table)
+    number_refused(rates::prepared::prepare(table))
 }
 
 // The study of a whole claim file with a prepared table.

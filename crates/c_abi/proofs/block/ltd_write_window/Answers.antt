@@ -11,4 +11,4 @@ dates old l b b' e e' hb he q = q ∙ (λ i. window_after (hb i) (he i) old)
 
 pub returns : goal.returns
 returns c =
-    record { value = c.write_window.ensures.value; block_after = dates c.args.block.now _ _ _ _ _ c.date_in.ensures c.date_in-2.ensures c.write_window.ensures.bytes_after }
+    record { value = c.number_refused.ensures ∙ c.write_window.ensures.value; block_after = dates c.args.block.now _ _ _ _ _ c.date_in.ensures c.date_in-2.ensures c.write_window.ensures.bytes_after }

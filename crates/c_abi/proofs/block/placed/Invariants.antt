@@ -1,10 +1,11 @@
 use mathlib.Core.Path.{◌≡◌}
-use Prim.Native.Nat.{◌-◌, ◌≤◌}
-use Rattle.c_abi.specs.RecordCalls.{placed}
+use mathlib.Core.Bool.{true}
+use mathlib.Core.List.{◌++◌}
+use lib.ListN.{drop, replicate}
+use Rattle.claim_file.specs.BlockAnswers.{no_claim}
+use Rattle.c_abi.specs.RecordCalls.{all_records, placed}
 use Rattle.c_abi.proofs.block.placed.Given as goal
 
 abbrev pub invariant-loop-place : goal.invariant-loop-place
-invariant-loop-place l = (l.place ≤ l.count) × (l.claims ≡ placed l.bytes l.place)
-
-abbrev pub decreases-loop-place : goal.decreases-loop-place
-decreases-loop-place l = l.count - l.place
+invariant-loop-place l =
+    (all_records l.bytes l.place ≡ true) × (l.claim-items ++ drop l.count (replicate 15 no_claim) ≡ placed l.bytes l.place)

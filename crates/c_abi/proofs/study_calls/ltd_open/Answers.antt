@@ -2,7 +2,7 @@
 use mathlib.Core.Path.{ap, ap₂, ◌∙◌}
 use native.Mathlib.Omega.{arith}
 use lib.Seq.{sets}
-use Rattle.study.specs.declared.Answer.{Answer}
+use Rattle.study.specs.Answers.{Answer}
 use Rattle.study.specs.Study.{opened}
 use Rattle.study_list.specs.StudyList.{study_numbers}
 use Rattle.study_list.proofs.Lent.{short, long, in-room}
@@ -16,5 +16,5 @@ returns-then-study-lt83 c =
 pub returns : goal.returns
 returns c =
     let old = c.args.study.now in
-    let e = c.open-answer.ensures ∙ ap₂ opened c.date_in.ensures c.date_in-2.ensures in let rest = long 83 old _ _ _ _ (omega arith) (ap (λ (a : Answer). a.refused) e) (in-room 83 old _ _ (omega arith) c.put_study.ensures.out_after ∙ ap (λ (a : Answer). sets old 0 (study_numbers a.study)) e) in
+    let e = c.open-answer.ensures ∙ ap₂ opened c.date_in.ensures c.date_in-2.ensures in let rest = long 83 old _ _ _ _ (omega arith) (c.number_in.ensures ∙ ap (λ (a : Answer). a.refused) e) (in-room 83 old _ _ (omega arith) c.put_study.ensures.out_after ∙ ap (λ (a : Answer). sets old 0 (study_numbers a.study)) e) in
     record { value = rest.0; study_after = rest.1 }

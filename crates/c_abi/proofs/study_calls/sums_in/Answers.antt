@@ -1,30 +1,19 @@
--- `sums_in` meets its contract. Invariant: the first `place` sums are those of the list. Measure: the places left. Assumes nothing.
-use mathlib.Core.Path.{refl, sym, ◌∙◌}
+-- `sums_in` meets its contract: the sums are copied from behind the first three numbers. Assumes nothing.
+use Prim.Native.Nat.{ℕ, ◌+◌}
+use mathlib.Core.Path.{◌≡◌, ap, ◌∙◌}
 use native.Mathlib.Omega.{arith}
 use lib.IntN.{pos}
-use lib.ListN.{get_or, length-set}
-use mir.Syntax.{w64}
-use mir.Facts.{to_z-of_z}
-use Rattle.basics.proofs.Tables.{table_at, list-table, filled_more}
+use lib.ListN.{get_or, take, drop, length-drop}
+use lib.Seq.{get_or-take, length-take-le}
+use Rattle.std.proofs.lemmas.List.{get_or-drop}
+use Rattle.basics.proofs.Tables.{list-table}
 use Rattle.c_abi.specs.StudyCalls.{sums_in}
-use borrow.Author.Rules.{rules}
 use Rattle.c_abi.proofs.study_calls.sums_in.Goals as goal
-
-pub loop-place-preserved : goal.loop-place-preserved
-unfolding sums_in
-loop-place-preserved c =
-    let l = c.loop-place in (
-      omega arith,
-      length-set l.sums l.place _ ∙ l.invariant.1,
-      filled_more (λ k. get_or (sums_in c.args.list.now) k (pos 0)) (pos 0) l.sums l.place _ (omega arith) l.invariant.2
-          (to_z-of_z {w = w64} (record { sfits = search rules }) ∙ sym (table_at 80 _ l.place (pos 0) (omega arith))),
-    )
 
 pub returns : goal.returns
 unfolding sums_in
 returns c =
-    let l = c.loop-place in
-    list-table 80 _ (pos 0) l.sums l.invariant.1 (λ k h. l.invariant.2 k (omega arith) ∙ table_at 80 _ k (pos 0) h)
-
-pub loop-place-init : goal.loop-place-init
-loop-place-init c = (omega arith, refl, λ k h. absurd (omega arith))
+    let list = c.args.list.now in
+    c.copy_from_slice.ensures.after
+    ∙ list-table 80 (λ k. get_or list (k + 3) (pos 0)) (pos 0) (take 80 (drop 3 list)) (length-take-le 80 (drop 3 list) (omega (arith, length-drop 3 list, c.requires)))
+    (λ k h. get_or-take 80 (drop 3 list) k (pos 0) h ∙ get_or-drop 3 list k (pos 0) ∙ (let e : 3 + k ≡ k + 3 = omega arith in ap (λ (j : ℕ). get_or list j (pos 0)) e))
