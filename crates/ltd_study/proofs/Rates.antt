@@ -3,19 +3,16 @@
 use Prim.Native.Nat.{ℕ, zero, suc, ◌+◌, ◌-◌, ◌*◌, ◌/◌, ◌%◌, ◌≤◌, ◌<◌}
 use mathlib.Core.Path.{◌≡◌, refl, sym, ap, ◌∙◌}
 use mathlib.Core.Bool.{Bool, true, false, and-eq-true_iff}
-use mathlib.Core.List.{List, [], ◌∷◌, ◌++◌}
+use mathlib.Core.List.{List, [], ◌++◌, append_assoc}
 use native.Mathlib.Omega.{arith}
-use native.Mathlib.Numerals.{add-one}
 use lib.ListN.{length, get_or, set, take, drop, length-append, get_or-append}
 use lib.Dec.{leb, ltb}
 use lib.Seq.{sets, sets-eq, length-take-le, take_at, get_or-take, get_or-append-add, take-suc-set, drop-set-lt}
-use borrow.Rule.Slice.PartMut.{mid_of, put_mid, mid_len, drop_put}
+use borrow.Rule.Slice.PartMut.{mid_of, put_mid, mid_len, drop_put, Post-is}
 use borrow.Author.Tests.{eq-eqb, ne_eqb, le-leb, lt-leb}
-use Rattle.basics.specs.Pick.{pick}
 use Rattle.basics.specs.Tables.{table}
 use Rattle.basics.proofs.Tables.{table-length, table_at, list-table}
 use Rattle.basics.proofs.Tests.{tests, by}
-use Rattle.basics.proofs.Stores.{run}
 use Rattle.rates.specs.Prepared.{prepare_after, prepared_of}
 use Rattle.claim_file.specs.Bytes.{byte_at, two_at, four_at}
 use Rattle.ltd_study.specs.Input.{block_rates, rates_fit, file_rates, RatesRead}
@@ -33,20 +30,16 @@ block_rates-length : (bytes : List ℕ) (n : ℕ) → length (block_rates bytes 
 unfolding block_rates
 block_rates-length bytes n = table-length n (λ k. four_at bytes (4 * k))
 
--- one entry more
-table_more : (n : ℕ) (f : ℕ → ℕ) → table n f ++ (f n ∷ []) ≡ table (suc n) f
-unfolding table
-table_more zero f = refl
-table_more (suc n) f = ap (λ (l : List ℕ). f zero ∷ l) (table_more n (λ k. f (suc k)))
-
--- one rate more
-pub rate-stored : (l t bytes : List ℕ) (from i v : ℕ) → t ≡ sets l from (block_rates bytes i) → v ≡ four_at bytes (4 * i)
-    → set t (from + i) v ≡ sets l from (block_rates bytes (i + 1))
+-- the part of the table where some bytes' rates stand
+pub rates-stored : (l items bytes : List ℕ) (from n : ℕ) → from + n ≤ length l → length items ≡ n
+    → ((k : ℕ) → k < n → get_or items k 0 ≡ four_at bytes (4 * k)) → put_mid from (from + n - from) l items ≡ sets l from (block_rates bytes n)
 unfolding block_rates
-rate-stored l t bytes from i v e p =
-    let f : ℕ → ℕ = λ k. four_at bytes (4 * k) in
-    run l t (set t (from + i) v) (table i f) (v ∷ []) from (from + i) (ap (λ (k : ℕ). from + k) (sym (table-length i f))) e refl
-    ∙ ap (λ (x : ℕ). sets l from (table i f ++ (x ∷ []))) p ∙ ap (sets l from) (table_more i f ∙ ap (λ (n : ℕ). table n f) (sym (add-one i)))
+rates-stored l items bytes from n h q f =
+    let rates = table n (λ k. four_at bytes (4 * k)) in
+    let long = table-length n (λ k. four_at bytes (4 * k)) in
+    ap (λ (x : List ℕ). take from l ++ (items ++ x)) (Post-is from (from + n) l (omega arith))
+    ∙ ap (λ (x : List ℕ). take from l ++ (x ++ drop (from + n) l)) (list-table n (λ k. four_at bytes (4 * k)) 0 items q f)
+    ∙ ap (λ (k : ℕ). take from l ++ (rates ++ drop (from + k) l)) (sym long) ∙ sym (append_assoc (take from l) rates (drop (from + length rates) l)) ∙ sym (sets-eq rates l from (omega (arith, long)))
 
 -- the test of the bytes that came, behind those of the rates before them
 pub fit-failed : (failed : Bool) (n : ℕ) → failed ≡ true → false ≡ rates_fit failed n

@@ -1,7 +1,7 @@
 -- The run of standard input, some bytes at a time, and under the rates that were read.
 -- Assumes nothing.
-use Prim.Native.Nat.{ℕ, ◌+◌, ◌%◌, ◌≤◌}
-use mathlib.Core.Path.{◌≡◌, refl, sym, ap, ◌∙◌}
+use Prim.Native.Nat.{ℕ, ◌%◌, ◌≤◌}
+use mathlib.Core.Path.{◌≡◌, refl, ap, ◌∙◌}
 use mathlib.Core.Bool.{Bool}
 use mathlib.Core.List.{List, [], ◌++◌}
 use native.Mathlib.Omega.{arith}
@@ -9,17 +9,20 @@ use lib.ListN.{length, take, drop, length-append}
 use lib.Seq.{take-append_seam}
 use borrow.Author.Tests.{le-ltb}
 use Rattle.basics.specs.Pick.{pick}
-use Rattle.basics.specs.Limits.{block_bytes}
 use Rattle.rates.specs.declared.Kind.TheVariants.{Prepared}
 use Rattle.rates.specs.Prepared.{prepared_of}
-use Rattle.claim_file.specs.declared.FileRun.{FileRun}
+use Rattle.claim_file.specs.Runs.{FileRun}
 use Rattle.claim_file.specs.Run.{Adding, started, blocks_fed, part_fed, fed, ended, file_run_with}
 use Rattle.claim_file.specs.PreparedRuns.{adding_with}
 use Rattle.claim_file.proofs.Feeding.{fed-in-pieces}
 use Rattle.claim_file.proofs.SameRuns.{same_runs}
 use Rattle.ltd_study.specs.Input.{file_rates, RatesRead, InputRun, StudyRun, StudyText}
-use Rattle.ltd_study.specs.Private.{FedSome}
 use Rattle.report.specs.Text.{run_text, line_answer, line_after}
+
+-- there are bytes that the run was fed from its start
+pub record FedSome (add : Adding) (run : FileRun) : Type 0 where
+  pub bytes : List ℕ
+  pub same : run ≡ fed started add bytes
 
 -- a run that was fed whole blocks
 pub record FedBlocks (add : Adding) (run : FileRun) : Type 0 where

@@ -1,10 +1,10 @@
 -- Document 01, Figures to hold it to: rates from `rates.bin`, the claim file on standard input; and what the program prints of them.
-use Rattle.std.specs.Prelude.{ℕ, ◌+◌, ◌*◌, ◌/◌, ◌%◌, ◌≡◌, min, Bool, true, false, not, ◌&&◌, List, [], length, take, leb, eqb, ℤ, pos, negsuc}
+use Rattle.std.specs.Prelude.{ℕ, ◌+◌, ◌*◌, ◌/◌, ◌%◌, ◌≡◌, Bool, true, false, not, ◌&&◌, List, [], length, take, leb, eqb, Result, Ok, Err}
 use Rattle.basics.specs.Limits.{block_bytes}
 use Rattle.basics.specs.Pick.{pick}
 use Rattle.basics.specs.Tables.{table}
 use Rattle.rates.specs.declared.Kind.TheVariants.{Prepared}
-use Rattle.claim_file.specs.declared.FileRun.{FileRun}
+use Rattle.claim_file.specs.Runs.{FileRun}
 use Rattle.claim_file.specs.Bytes.{four_at}
 use Rattle.claim_file.specs.Run.{file_run_with, file_run}
 use Rattle.claim_file.specs.PreparedRuns.{adding_with}
@@ -15,19 +15,10 @@ use Rattle.ltd_study.specs.declared.input.Filled.{Filled}
 unfoldable pub block_rates : List ℕ → ℕ → List ℕ
 block_rates bytes n = table n (λ k. four_at bytes (4 * k))
 
--- a read's answer is below 0 where it failed
-abbrev pub is_failure : ℤ → Bool
-is_failure (pos n) = false
-is_failure (negsuc n) = true
-
--- a read's answer as a count: at most the bytes that there is room for, and none where it is below 0
-abbrev pub clamp_len : ℤ → ℕ → ℕ
-clamp_len (pos k) most = min k most
-clamp_len (negsuc k) most = 0
-
--- what a read of at most `room` bytes comes to: no byte is the end of the input, or a failure
-abbrev pub read_answer : ℤ → ℕ → Filled
-read_answer got room = record { count = clamp_len got room; over = eqb (clamp_len got room) 0; failed = is_failure got }
+-- what a read comes to: no byte is the end of the input, or a failure
+abbrev pub read_answer : {E : Type 0} → Result ℕ E → Filled
+read_answer (Ok n) = record { count = n; over = eqb n 0; failed = false }
+read_answer (Err e) = record { count = 0; over = true; failed = true }
 
 -- whether so many bytes of `rates.bin`, read to its end or not, are rates: at most 16 cells of 958, and no part number left over
 unfoldable pub rates_fit : Bool → ℕ → Bool

@@ -1,5 +1,5 @@
 // Reading: `rates.bin` into the rate table, and standard input into the file run, each from a reader and both through one lent buffer of 2,048 bytes.
-ghost use Rattle.std.specs.Prelude.{◌≡◌, false, ◌+◌, ◌*◌, ◌≤◌, ◌<◌, min, length, take, drop};
+ghost use Rattle.std.specs.Prelude.{◌≡◌, false, ◌+◌, ◌*◌, ◌≤◌, ◌<◌, length, take, drop};
 ghost use Rattle.std.proofs.lemmas.List.Edits.{sets};
 ghost use Rattle.rates.specs.declared.Kind.TheVariants.{Prepared};
 ghost use Rattle.rates.specs.Prepared.{prepared_of};
@@ -8,16 +8,24 @@ ghost use Rattle.claim_file.specs.Bytes.{four_at};
 ghost use Rattle.claim_file.specs.Run.{fed};
 ghost use Rattle.claim_file.specs.PreparedRuns.{adding_with};
 ghost use Rattle.claim_file.specs.LentRuns.{run_with};
-ghost use Rattle.ltd_study.specs.Input.{block_rates, clamp_len, read_answer, fed_count, rates_fit, RatesRead, InputRun, StudyRun};
-ghost use Rattle.ltd_study.specs.Private.{Filling, FedSome};
+ghost use Rattle.ltd_study.specs.Input.{block_rates, read_answer, fed_count, rates_fit, RatesRead, InputRun, StudyRun};
+ghost use Rattle.ltd_study.specs.Private.{Filling};
 
 use claim_file::LentRun;
 use claim_file::run::feed_lent;
 use rates::Kind;
 use rates::prepared::prepare;
-use std::io::Read;
+use std::io::{self, Read};
 
-// How many bytes came, whether the input is over behind them, and whether a read failed there.
+// The buffer that all bytes go through.
+pub(crate) type Buffer = [u8; 2048];
+
+// The rates of 16 cells, and the mark behind them.
+// Kept: how many are filled goes beside it, since fixed memory has no list that grows.
+type Table = [u32; 15329];
+
+// How many bytes came, whether the input is over behind them, and whether a read failed there. Kept: no enum, since a failed read is over too, and each of
+// the three is asked alone.
 #[derive(Clone, Copy)]
 struct Filled {
     count: usize,
@@ -25,37 +33,21 @@ struct Filled {
     failed: bool,
 }
 
-// A read's answer as a count of at most so many bytes: none where it is below 0.
-fn clamped(got: isize, most: usize) -> usize
-    ensures bound { result ≤ most }
-    ensures value { result ≡ clamp_len got most }
+// What a read comes to.
+fn taken(got: io::Result<usize>) -> Filled
+    ensures { result ≡ read_answer got }
 {
-    if got > 0 {
-        min_len(got as usize, most)
-    } else {
-        0
-    }
-}
-
-fn min_len(a: usize, b: usize) -> usize
-    ensures a_bound { result ≤ a }
-    ensures b_bound { result ≤ b }
-    ensures value { result ≡ min a b }
-{
-    if a < b { a } else { b }
-}
-
-// What a read's answer says of the bytes that it was handed: how many it gave, or a number below 0 where it failed.
-fn taken(got: isize, bytes: &[u8]) -> Filled
-    ensures value { result ≡ read_answer got (length bytes.now) }
-    ensures count_in_bounds { result.count ≤ length bytes.now }
-    ensures count_nonzero { result.over ≡ false → 0 < result.count }
-{
-    let count = clamped(got, bytes.len());
-    Filled {
-        count,
-        over: count == 0,
-        failed: got < 0,
+    match got {
+        Ok(count) => Filled {
+            count,
+            over: count == 0,
+            failed: false,
+        },
+        Err(_) => Filled {
+            count: 0,
+            over: true,
+            failed: true,
+        },
     }
 }
 
@@ -64,25 +56,21 @@ fn read_some(reader: &mut impl Read, bytes: &mut [u8]) -> Filled
     ensures count_in_bounds { result.count ≤ length bytes.old }
     ensures count_nonzero { result.over ≡ false → 0 < result.count }
 {
-    let got = match reader.read(bytes) {
-        Ok(count) => count as isize,
-        Err(_) => -1,
-    };
-    taken(got, bytes)
+    taken(reader.read(bytes))
 }
 
-// Reads until the bytes are full, the input ends or a read fails: a pipe hands out fewer bytes than asked.
-fn fill(reader: &mut impl Read, bytes: &mut [u8]) -> Filled
-    ensures { Filling (length bytes.old) result }
+// Reads until the buffer is full, the input ends or a read fails: a pipe hands out fewer bytes than asked.
+fn fill(reader: &mut impl Read, buffer: &mut Buffer) -> Filled
+    ensures { Filling 2048 result }
 {
+    // Kept: std's `read_exact` doesn't say how many bytes came before the end.
     let mut done = 0;
-    while done < bytes.len() {
-        let some = read_some(reader, &mut bytes[done..]);
+    while done < buffer.len() {
+        let some = read_some(reader, &mut buffer[done..]);
         if some.over {
             return Filled {
                 count: done,
-                over: true,
-                failed: some.failed,
+                ..some
             };
         }
         done += some.count;
@@ -94,22 +82,13 @@ fn fill(reader: &mut impl Read, bytes: &mut [u8]) -> Filled
     }
 }
 
-fn wide(byte: u8) -> u32
-    ensures value { result ≡ byte }
-    ensures upper_bound { result < 256 }
-{
-    byte as u32
-}
-
 // The number of four bytes, low byte first.
+// Kept: `four_at` of `claim_file` is private there; over `as_chunks::<4>()` the proof that a chunk's number is that of its four bytes didn't close.
 fn rate_at(bytes: &[u8], at: usize) -> u32
     requires { at + 4 ≤ length bytes.now }
     ensures { result ≡ four_at bytes.now at }
 {
-    wide(bytes[at])
-        + wide(bytes[at + 1]) * 256
-        + wide(bytes[at + 2]) * 65536
-        + wide(bytes[at + 3]) * 16777216
+    u32::from_le_bytes([bytes[at], bytes[at + 1], bytes[at + 2], bytes[at + 3]])
 }
 
 // Puts the first rates of some bytes into the table from a place on.
@@ -118,10 +97,9 @@ fn put_rates(bytes: &[u8], rates: usize, table: &mut [u32], from: usize)
     requires rates_in_bounds_2 { from + rates ≤ length table.old }
     ensures { table.new ≡ sets table.old from (block_rates bytes.now rates) }
 {
-    let mut i = 0;
-    while i < rates {
-        table[from + i] = rate_at(bytes, 4 * i);
-        i += 1;
+    let end = from + rates;
+    for (i, rate) in table[from..end].iter_mut().enumerate() {
+        *rate = rate_at(bytes, 4 * i);
     }
 }
 
@@ -131,23 +109,16 @@ fn are_rates(filled: Filled, rates: usize) -> bool
     requires count_bound { filled.count ≤ 2048 }
     ensures { result ≡ rates_fit filled.failed (4 * rates + filled.count) }
 {
-    if filled.failed {
-        return false;
-    }
-    if filled.count % 4 != 0 {
-        return false;
-    }
-    rates + filled.count / 4 <= 15328
+    !filled.failed && filled.count % 4 == 0 && rates + filled.count / 4 <= 15328
 }
 
 // Reads `rates.bin` into the table, and answers how many rates it has.
-fn read_rates(file: &mut impl Read, table: &mut [u32], buffer: &mut [u8]) -> usize
-    requires table_len { length table.old ≡ 15329 }
-    requires buffer_len { length buffer.old ≡ 2048 }
+fn read_rates(file: &mut impl Read, table: &mut Table, buffer: &mut Buffer) -> usize
     ensures rates_read { RatesRead result table.new }
     ensures upper_bound { result ≤ 15328 }
 {
     let mut rates = 0;
+    // Kept: std has no iterator over what a reader gives that fills a lent buffer, and the last part is put before the loop ends.
     loop {
         let filled = fill(file, buffer);
         if !are_rates(filled, rates) {
@@ -163,9 +134,7 @@ fn read_rates(file: &mut impl Read, table: &mut [u32], buffer: &mut [u8]) -> usi
 }
 
 // The same of a file that may be missing, which is closed behind it.
-fn rates_of<F: Read + Drop>(file: Option<F>, table: &mut [u32], buffer: &mut [u8]) -> usize
-    requires table_len { length table.old ≡ 15329 }
-    requires buffer_len { length buffer.old ≡ 2048 }
+fn rates_of<F: Read + Drop>(file: Option<F>, table: &mut Table, buffer: &mut Buffer) -> usize
     ensures rates_read { RatesRead result table.new }
     ensures upper_bound { result ≤ 15328 }
 {
@@ -176,6 +145,7 @@ fn rates_of<F: Read + Drop>(file: Option<F>, table: &mut [u32], buffer: &mut [u8
 }
 
 // How many bytes of the buffer are fed. A failed read must not look like the end of the file: a part block follows the whole ones.
+#[tactic(auto, unfolding(crate::specs::Input::fed_count))]
 fn fed_count(came: Filled) -> usize
     requires { Filling 2048 came }
     ensures value { result ≡ fed_count came.failed came.count }
@@ -191,101 +161,62 @@ fn fed_count(came: Filled) -> usize
 fn feed_bytes(
     run: LentRun,
     table: &[u32],
-    buffer: &[u8],
+    buffer: &Buffer,
     count: usize,
     sums: &mut [i64; 80],
 ) -> LentRun
-    requires { count ≤ length buffer.now }
+    requires { count ≤ 2048 }
     ensures { run_with result sums.new ≡ fed (run_with run sums.old) (adding_with Prepared table.now) (take count buffer.now) }
 {
     feed_lent(Kind::Prepared, table, &buffer[..count], run, sums)
 }
 
-// The run with standard input fed, four blocks at a time. A proved loop has to end, and nothing says that the input does: the loop counts
-// its turns down, from a number that no run uses up.
-fn feed_input(
-    input: &mut impl Read,
-    table: &[u32],
-    sums: &mut [i64; 80],
-    buffer: &mut [u8],
-) -> LentRun
-    requires sums_value { sums.old ≡ none }
-    requires buffer_len { length buffer.old ≡ 2048 }
-    ensures { FedSome (adding_with Prepared table.now) (run_with result sums.new) }
-{
-    let mut run = LentRun::start();
-    let mut turns = u64::MAX;
-    while turns > 0 {
-        let filled = fill(input, buffer);
-        run = feed_bytes(run, table, buffer, fed_count(filled), sums);
-        if run.refused != 0 {
-            return run;
-        }
-        if filled.over {
-            return run;
-        }
-        turns -= 1;
-    }
-    run
-}
-
-// The file run of standard input.
+// The file run of standard input, fed four blocks at a time.
+// Kept: a proved loop has to end, and nothing says that the input does, so it has a number of turns that no run uses up.
 fn run_input(
     input: &mut impl Read,
     table: &[u32],
     sums: &mut [i64; 80],
-    buffer: &mut [u8],
+    buffer: &mut Buffer,
 ) -> LentRun
-    requires sums_value { sums.old ≡ none }
-    requires buffer_len { length buffer.old ≡ 2048 }
+    requires { sums.old ≡ none }
     ensures { InputRun table.now (run_with result sums.new) }
 {
-    let run = feed_input(input, table, sums, buffer);
+    let mut run = LentRun::start();
+    for _ in 0..u64::MAX {
+        let filled = fill(input, buffer);
+        run = feed_bytes(run, table, buffer, fed_count(filled), sums);
+        if run.stop.is_some() || filled.over {
+            break;
+        }
+    }
     run.end()
 }
 
 // Prepares the first rates of the table where they stand, with the mark behind them.
-fn prepare_rates(table: &mut [u32], rates: usize)
-    requires { rates < length table.old }
+fn prepare_rates(table: &mut Table, rates: usize)
+    requires { rates < 15329 }
     ensures table_after { take (rates + 1) table.new ≡ prepared_of (take rates table.old) }
     ensures table_unchanged { drop (rates + 1) table.new ≡ drop (rates + 1) table.old }
 {
     table[rates] = 0;
     let numbers = rates + 1;
-    prepare(&mut table[0..numbers]);
+    let _ = prepare(&mut table[0..numbers]);
 }
 
 // The file run of the input under the rates of a file, if it is there. The file is closed first: with standard input closed its descriptor
 // has that number, and the rest of `rates.bin` is no claim file.
-fn run_under<F: Read + Drop>(
-    file: Option<F>,
-    input: &mut impl Read,
-    table: &mut [u32],
-    sums: &mut [i64; 80],
-    buffer: &mut [u8],
-) -> LentRun
-    requires table_len { length table.old ≡ 15329 }
-    requires sums_value { sums.old ≡ none }
-    requires buffer_len { length buffer.old ≡ 2048 }
-    ensures { StudyRun (run_with result sums.new) }
-{
-    let rates = rates_of(file, table, buffer);
-    prepare_rates(table, rates);
-    let numbers = rates + 1;
-    run_input(input, &table[0..numbers], sums, buffer)
-}
-
-// The same with a table of its own.
-pub fn run_with<F: Read + Drop>(
+pub(crate) fn run_under<F: Read + Drop>(
     file: Option<F>,
     input: &mut impl Read,
     sums: &mut [i64; 80],
-    buffer: &mut [u8],
+    buffer: &mut Buffer,
 ) -> LentRun
-    requires sums_value { sums.old ≡ none }
-    requires buffer_len { length buffer.old ≡ 2048 }
+    requires { sums.old ≡ none }
     ensures { StudyRun (run_with result sums.new) }
 {
-    let mut table = [0u32; 15329];
-    run_under(file, input, &mut table, sums, buffer)
+    let mut table = [0; 15329];
+    let rates = rates_of(file, &mut table, buffer);
+    prepare_rates(&mut table, rates);
+    run_input(input, &table[..rates + 1], sums, buffer)
 }

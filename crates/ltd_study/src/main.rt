@@ -17,12 +17,12 @@ fn rates_file<R: Files>(rt: &R) -> Option<R::File> {
     File::open(rt, "rates.bin").ok()
 }
 
-// What the program prints under the rates of a file, if it is there. Out of line, as what it has on the stack leaves no room for the path.
+// Prints the study under the rates of a file, if it is there, up to a write that fails. Out of line, as what it has on the stack leaves no room for the path.
 #[inline(never)]
 fn print_study<F: Read + Drop>(rt: &HostRuntime, rates: Option<F>) {
     let mut buffer = [0u8; 2048];
     let count = output::study_text(rates, &mut rt.stdin(), &mut buffer);
-    output::print_bytes(rt, &buffer[..count]);
+    let _ = rt.write_all(&buffer[..count]);
 }
 
 fn main(rt: HostRuntime) {

@@ -1,15 +1,8 @@
-use Prim.Native.Nat.{ℕ, ◌+◌, ◌-◌, ◌≤◌}
-use mathlib.Core.Path.{◌≡◌, refl, ap, ◌∙◌}
-use native.Mathlib.Omega.{arith}
-use lib.ListN.{length}
-use lib.Seq.{sets, length-sets}
-use Rattle.basics.specs.Tables.{table}
-use Rattle.ltd_study.specs.Input.{block_rates}
-use Rattle.ltd_study.proofs.Rates.{rate-stored}
+use Prim.Native.Nat.{ℕ, ◌*◌, ◌<◌}
+use mathlib.Core.Path.{◌≡◌}
+use lib.ListN.{get_or}
+use Rattle.claim_file.specs.Bytes.{four_at}
 use Rattle.ltd_study.proofs.input.put_rates.Given as goal
 
 abbrev pub invariant-loop-i : goal.invariant-loop-i
-invariant-loop-i l = (l.i ≤ l.rates) × (l.table ≡ sets l.initial.table l.from (block_rates l.bytes l.i))
-
-abbrev pub decreases-loop-i : goal.decreases-loop-i
-decreases-loop-i l = l.rates - l.i
+invariant-loop-i l = (k : ℕ) → k < l.i → get_or l.rate-items k 0 ≡ four_at l.bytes (4 * k)
