@@ -1,31 +1,21 @@
 -- Lists of numbers compared and filled.
-use Rattle.std.specs.Prelude.{ℕ, zero, suc, ◌+◌, ◌-◌, ◌%◌, ◌^◌, min, Bool, true, false, ◌&&◌, List, [], ◌∷◌, ℤ, pos, negsuc, ◌==◌, nat_lt, slice_set}
+use Rattle.std.specs.Prelude.{ℕ, zero, suc, ◌+◌, ◌-◌, ◌%◌, ◌^◌, min, Bool, not, List, ℤ, nat_eq, nat_lt, slice_set}
+use Rattle.std.specs.List.{zip, count_by, list_all}
+use Rattle.std.specs.Ordering.{int_eq}
+use lib.Pointwise.{pointwise}
 use Rattle.basics.specs.Pick.{pick}
 
 -- equally long, and equal place by place
-unfoldable pub same_list : List ℕ → List ℕ → Bool
-same_list [] [] = true
-same_list [] (y ∷ b) = false
-same_list (x ∷ a) [] = false
-same_list (x ∷ a) (y ∷ b) = x == y && same_list a b
+abbrev pub same_list : List ℕ → List ℕ → Bool
+same_list a b = pointwise nat_eq a b
 
 -- the places, up to the shorter one's end, at which two lists differ, counted
-unfoldable pub places_unlike : List ℕ → List ℕ → ℕ
-places_unlike [] b = 0
-places_unlike (x ∷ a) [] = 0
-places_unlike (x ∷ a) (y ∷ b) = pick (x == y) 0 1 + places_unlike a b
-
--- whether two signed numbers are equal
-abbrev pub same_number : ℤ → ℤ → Bool
-same_number (pos a) (pos b) = a == b
-same_number (pos a) (negsuc b) = false
-same_number (negsuc a) (pos b) = false
-same_number (negsuc a) (negsuc b) = a == b
+abbrev pub places_unlike : List ℕ → List ℕ → ℕ
+places_unlike a b = count_by (λ p. not (nat_eq p.0 p.1)) (zip a b)
 
 -- one number throughout
-unfoldable pub all_are : ℤ → List ℤ → Bool
-all_are z [] = true
-all_are z (x ∷ l) = same_number x z && all_are z l
+abbrev pub all_are : ℤ → List ℤ → Bool
+all_are z l = list_all (λ x. int_eq x z) l
 
 -- the number that follows another one: a step more in 32 bits, less the limit once it comes to it
 abbrev pub step_to : ℕ → ℕ → ℕ → ℕ

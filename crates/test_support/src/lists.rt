@@ -2,58 +2,29 @@
 ghost use Rattle.std.specs.Prelude.{◌≡◌, drop, replicate};
 ghost use Rattle.test_support.specs.Lists.{same_list, places_unlike, all_are, step_to, filled_table};
 
-use std::num::wrapping_add_u32;
-
 // Whether two lists hold the same numbers.
 pub fn same(a: &[u64], b: &[u64]) -> bool
     ensures { result ≡ same_list a.now b.now }
 {
-    if a.len() != b.len() {
-        return false;
-    }
-    let mut i = 0;
-    while i < a.len() {
-        if a[i] != b[i] {
-            return false;
-        }
-        i += 1;
-    }
-    true
+    a == b
 }
 
 // In how many places two lists differ, up to the shorter one's end.
 pub fn differences(a: &[u8], b: &[u8]) -> u64
     ensures { result ≡ places_unlike a.now b.now }
 {
-    let mut count = 0;
-    let mut i = 0;
-    while i < a.len() {
-        if i >= b.len() {
-            return count;
-        }
-        if a[i] != b[i] {
-            count += 1;
-        }
-        i += 1;
-    }
-    count
+    a.iter().zip(b).filter(|(x, y)| *x != *y).count() as u64
 }
 
 // Whether a list from a place on holds one number throughout.
 pub fn throughout(list: &[i32], from: usize, number: i32) -> bool
     ensures { result ≡ all_are number (drop from list.now) }
 {
-    let mut i = from;
-    while i < list.len() {
-        if list[i] != number {
-            return false;
-        }
-        i += 1;
-    }
-    true
+    list.iter().skip(from).all(|x| *x == number)
 }
 
 // A table with its places from one to another filled: the first number, then each a step more, less the limit once it comes to it.
+// Kept: by places, since the proof over `iter_mut` with `take` and `skip` didn't close: the invariant knows nothing of the table then.
 pub fn filled(
     table: [u32; 1916],
     from: usize,
@@ -66,14 +37,9 @@ pub fn filled(
 {
     let mut after = table;
     let mut number = first;
-    let mut i = from;
-    while i < to {
-        if i >= 1916 {
-            return after;
-        }
+    for i in from..to.min(1916) {
         after[i] = number;
         number = stepped(number, step, limit);
-        i += 1;
     }
     after
 }
@@ -81,7 +47,7 @@ pub fn filled(
 fn stepped(number: u32, step: u32, limit: u32) -> u32
     ensures { result ≡ step_to step limit number }
 {
-    let next = wrapping_add_u32(number, step);
+    let next = number.wrapping_add(step);
     if next < limit {
         return next;
     }

@@ -6,25 +6,19 @@ ghost use Rattle.test_support.specs.Bits.{bits_of, size_of};
 pub fn bits(x: i64) -> u64
     ensures { result ≡ bits_of x }
 {
-    if x < 0 {
-        return 18446744073709551615 - (-1 - x) as u64;
-    }
-    x as u64
+    x.cast_unsigned()
 }
 
 // The same of a number of 32 bits.
 pub fn bits_of_short(x: i32) -> u64
     ensures { result ≡ bits_of x }
 {
-    bits(x as i64)
+    bits(i64::from(x))
 }
 
 // The size of a signed number, of which the bits are given.
 pub fn size_of_bits(bits: u64) -> u64
     ensures { result ≡ size_of bits }
 {
-    if bits < 9223372036854775808 {
-        return bits;
-    }
-    18446744073709551615 - bits + 1
+    bits.cast_signed().unsigned_abs()
 }

@@ -1,6 +1,6 @@
 -- `test_support::lists::filled` meets its contract. The loop's invariant: the table is filled if what is left of its places is. Assumes nothing.
-use Rattle.std.proofs.Common.{◌≡◌, ℕ, suc, ◌+◌, ◌-◌, ◌≤◌, min, List, set, sym, refl, ◌∙◌, add-one, arith, rules}
-use Rattle.test_support.specs.Lists.{step_to, filled_from, filled_table}
+use Rattle.std.proofs.Common.{◌≡◌, ℕ, suc, ◌+◌, ◌-◌, min, List, set, sym, refl, ◌∙◌, add-one, arith}
+use Rattle.test_support.specs.Lists.{step_to, filled_from}
 use Rattle.test_support.proofs.lists.filled.Goals as goal
 
 module _ (step limit : ℕ) (l : List ℕ) (i n : ℕ) where
@@ -14,24 +14,15 @@ module _ (step limit : ℕ) (l : List ℕ) (i n : ℕ) where
   unfolding filled_from
   ended k e = rw e refl
 
-pub loop-i-init : goal.loop-i-init
-loop-i-init c = (omega arith, refl)
-
-pub returns-then-i-ge1916 : goal.returns-then-i-ge1916
-returns-then-i-ge1916 c =
-    let l = c.loop-i in
-    let a = c.args in
-    sym (l.invariant.1 ∙ ended a.step a.limit l.after l.i l.number (min a.to 1916 - l.i) (omega arith))
-
 pub loop-i-preserved : goal.loop-i-preserved
 loop-i-preserved c =
     let l = c.loop-i in
     let a = c.args in
-    let e = more a.step a.limit l.after l.i l.number (min a.to 1916 - l.i) (min a.to 1916 - (l.i + 1)) (omega arith) in
-    (omega arith, rw c.stepped-number.ensures (l.invariant.1 ∙ e))
+    let e = more a.step a.limit l.after l.i l.number (min a.to 1916 - l.i) (min a.to 1916 - (l.i + 1)) (omega (arith, c.min-i-end.ensures)) in
+    rw c.stepped-number.ensures (l.invariant ∙ e)
 
 pub returns : goal.returns
 returns c =
     let l = c.loop-i in
     let a = c.args in
-    sym (l.invariant.1 ∙ ended a.step a.limit l.after l.i l.number (min a.to 1916 - l.i) (omega arith))
+    sym (l.invariant ∙ ended a.step a.limit l.after l.i l.number (min a.to 1916 - l.i) (omega (arith, c.min-i-end.ensures)))
