@@ -6,6 +6,7 @@ import re
 QUOTED = re.compile(r"`([^`]+)`")
 FIELD = re.compile(r"has no field `(?P<name>[^`]+)`[^\n]*(?:\n +the fields that can be named here are (?P<there>[^\n]*))?")
 GOALS = re.compile(r"^help: `Goals` has no (?P<names>[^;\n]*); rattle asks for (?P<goals>[^;\n]*)(?:; a `use` line of it can name these places: (?P<places>[^\n]*))?", re.M)
+NAMED = re.compile(r"module `[^`]*Goals` has no `(?P<name>[^`]+)` that can be named from here \(did you mean `(?P<there>[^`]+)`\?\)")
 # What stands before a condition in a name.
 BEFORE = {"if", "then", "else", "Then", "Else", "returns"}
 # How much alike two names are at least.
@@ -16,6 +17,8 @@ def missing(said):
     """Each name that isn't there, with those that are."""
     for m in FIELD.finditer(said):
         yield m["name"], QUOTED.findall(m["there"] or "")
+    for m in NAMED.finditer(said):
+        yield m["name"], [m["there"]]
     for m in GOALS.finditer(said):
         for name in QUOTED.findall(m["names"]):
             yield name, QUOTED.findall((m["places"] or "") if name[:1].isupper() else m["goals"])

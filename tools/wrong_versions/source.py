@@ -102,6 +102,15 @@ def body_from(tokens, j):
     return j
 
 
+def name_before(tokens, i):
+    """The name that stands before a token, with or without parameters in angle brackets."""
+    i, deep = i - 1, 0
+    while deep or tokens[i].text in ("<", ">"):
+        deep += (tokens[i].text == ">") - (tokens[i].text == "<")
+        i -= 1
+    return tokens[i].text
+
+
 def functions_of(file, text):
     tokens = tokens_of(text)
     found, owner, owner_end, i = [], "", -1, 0
@@ -109,7 +118,7 @@ def functions_of(file, text):
         owner = owner if i <= owner_end else ""
         if tokens[i].kind == "name" and tokens[i].text == "impl":
             opened = next_of(tokens, i, "{")
-            owner, owner_end, i = tokens[opened - 1].text, closing(tokens, opened), opened + 1
+            owner, owner_end, i = name_before(tokens, opened), closing(tokens, opened), opened + 1
         elif tokens[i].text == "extern" and tokens[i + 2].text == "{":
             i = closing(tokens, i + 2) + 1
         elif tokens[i].text == "fn" and tokens[i + 1].kind == "name":
