@@ -108,7 +108,7 @@ def _packed(name: str, values: List[object]) -> "array[int]":
         if name not in BITS:
             return _timestamps(values) if _are_timestamps(values) else array("I", map(_DateNumbers().__getitem__, values))
         if name in _WORDS and set(map(type, values)) == {str}:
-            return array("B", map(_WORDS[name].__getitem__, values))
+            return array("B", bytes(map(_WORDS[name].__getitem__, values)))
         return array(_TYPES[BITS[name]], values)  # type: ignore[arg-type]
     except (KeyError, TypeError, ValueError, OverflowError):
         return _packed_one_by_one(name, values)

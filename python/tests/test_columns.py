@@ -13,7 +13,8 @@ from ltd_study.dates import is_missing, number_of, record_date
 from .support import WINDOW, any_claim, any_rates, claim_file, least_time, sound_claims
 
 ROWS = 500_000
-MOST_SECONDS = 1.0
+TIMES_QUICKER = 6
+"""Half a million rows are asked for in a second where building as many claims takes six."""
 
 
 class Whole:
@@ -294,16 +295,23 @@ class Columns(unittest.TestCase):
         for row in (-1, len(found)):
             self.assertRaises(IndexError, found.claim, row)
 
-    def test_half_a_million_within_a_second(self) -> None:
+    def test_half_a_million_six_times_quicker_than_one_by_one(self) -> None:
         days = [date(1990 + i % 20, 1 + i % 12, 1 + i % 28) for i in range(ROWS)]
         texts = list(map(str, days))
         words = [("closed", "open")[i % 2] for i in range(ROWS)]
         closed = [None if i % 2 else day for i, day in enumerate(days)]
         others = {"status": words, "code": ["recovery"] * ROWS, "cell": array("H", bytes(2 * ROWS)), "benefit": [25] * ROWS}
+
+        def one_by_one() -> bytes:
+            rows = zip(range(ROWS // 10), days, texts, closed, words)
+            return b"".join(Claim(i, day, text, end, None, word, "recovery", 0, 25).record for i, day, text, end, word in rows)
+
+        tenth, records = least_time(one_by_one)
         seconds, found = least_time(lambda: Claims(range(ROWS), days, texts, closed, **others))
-        self.assertLess(seconds, MOST_SECONDS)
+        self.assertLess(seconds * TIMES_QUICKER, tenth * 10)
         last = Claim(ROWS - 1, days[-1], days[-1], None, None, "open", "recovery", 0, 25)
         self.assertEqual((len(found), found.claim(ROWS - 1)), (ROWS, last))
+        self.assertEqual(found.data[: len(records)], records)
 
 
 class ColumnsInCalls(unittest.TestCase):
