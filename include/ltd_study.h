@@ -18,11 +18,12 @@
    ltd_prepared_file_study, libc_abi.a all others.
 
    A slice is a pointer and a length in elements. No call keeps a pointer or writes outside the lent lists. A null list has length 0.
-   A list that is written may overlap no other list of the call; a list too long is taken, its rest untouched.
+   A list that is written may overlap no other list of the call. A longer list than asked for is taken, its rest untouched, unless a call
+   says otherwise.
    A date is the claim file's four bytes as one number, low byte first: year + 65,536 × month + 16,777,216 × day.
    A claim is its record, the 32 bytes of struct ltd_claim; a longer list is taken by its first 32.
    A refusal is the number of document 01's table or of document 02's requests: LTD_REFUSED_.. below. 255 says that a lent list has not the
-   length or form asked for, before any numbered check; nothing is written then. */
+   length or form asked for, before any numbered check; nothing is written then, nor at a refusal, unless a call says otherwise. */
 #ifndef LTD_STUDY_H
 #define LTD_STUDY_H
 #include <stddef.h>
@@ -122,8 +123,10 @@ uint8_t ltd_read_window(const uint8_t *block, size_t block_len, uint32_t *dates,
    not zero. */
 uint64_t ltd_listing(uint32_t first, uint32_t last, const uint8_t *claim, size_t claim_len, int32_t *list, size_t list_len);
 
-/* The study of a whole claim file. Answers the number refused, or 0. Writes 86 numbers to out: number, block, claim place, then the 83
-   numbers of the study. 255 if out is shorter than 86. */
+/* The study of a whole claim file. Answers the number refused, or 0. Writes 86 numbers to out, at a refusal too: number, block, claim place,
+   then the 83 numbers of the study. A refused run gives the study so far, with the claims before the refused one; where block 0 or its
+   window is refused, that of 1950-01-01 alone. A claim place counts from 1, and is 0 for a block or a window. 255 if out is shorter than
+   86. */
 uint8_t ltd_file_study(const uint8_t *file, size_t file_len, const uint32_t *rates, size_t rates_len, int64_t *out, size_t out_len);
 
 /* Prepares a table of 958 x n + 1 numbers in place, n 1 to 1,024, the last one 0: the rates of each cell that is sound are replaced by their
@@ -131,15 +134,15 @@ uint8_t ltd_file_study(const uint8_t *file, size_t file_len, const uint32_t *rat
    last number that is not 0). */
 uint8_t ltd_prepare(uint32_t *table, size_t table_len);
 
-/* The study of a whole claim file with a prepared table: as ltd_file_study with the rates that were prepared, and faster. Refusal 6 says
-   that the table is not a prepared one. 255 if out is shorter than 86. */
+/* The study of a whole claim file with a prepared table: as ltd_file_study with the rates that were prepared, what is written at a refusal
+   included, and faster. Refusal 6 says that the table is not a prepared one. 255 if out is shorter than 86. */
 uint8_t ltd_prepared_file_study(const uint8_t *file, size_t file_len, const uint32_t *table, size_t table_len, int64_t *out, size_t out_len);
 
 /* The study of a whole claim file in which a later record corrects the earlier ones with its claim number: as ltd_file_study, but of each
    number only the last record in file order is added, and earlier ones are not checked beyond their block. First every block is checked
    (11), then the window (1), both with the study of 1950-01-01 alone, then the number of records: 14 at block 0, place 0, with the fresh
-   study of that window, if the file has more than 60,000, corrected ones included. A claim's refusal names its place in this file. 255 if
-   out is shorter than 86. */
+   study of that window, if the file has more than 60,000, corrected ones included. A claim's refusal names its place in this file, with
+   the study so far. 255 if out is shorter than 86. */
 uint8_t ltd_corrected_study(const uint8_t *file, size_t file_len, const uint32_t *rates, size_t rates_len, int64_t *out, size_t out_len);
 
 /* The same with a prepared table: as ltd_corrected_study with the rates that were prepared, and faster. Refusal 6 says that the table is not
@@ -147,35 +150,39 @@ uint8_t ltd_corrected_study(const uint8_t *file, size_t file_len, const uint32_t
 uint8_t ltd_prepared_corrected_study(const uint8_t *file, size_t file_len, const uint32_t *table, size_t table_len, int64_t *out,
                                      size_t out_len);
 
-/* z, m and T of a group into out (3 numbers), T without any ceiling. Answers 0, or 12. 255 if out is shorter than 3. */
+/* z, m and T of a group into out (3 numbers), T without any ceiling. Answers 0, or 12 with out untouched. 255 if out is shorter than 3. */
 uint8_t ltd_factor(uint8_t group, uint32_t terminations, int64_t expected, uint64_t *out, size_t out_len);
 
 /* The smallest count of terminations, 0 to 500,000, with which T of a group is at least wanted, expected as it is. Answers the count, or
    2^32 + the number refused: 12 (group), 19 (no such count). Nothing is lent, so 255 is never answered. */
 uint64_t ltd_wanted_count(uint8_t group, int64_t expected, uint64_t wanted);
 
-/* The valuation rate, or 2^32 + the number refused (6, 7, 8, 12). */
+/* The valuation rate, or 2^32 + the number refused (6, 7, 8, 12, in this order). */
 uint64_t ltd_valuation_rate(const uint32_t *rates, size_t rates_len, uint32_t cell, uint64_t t, uint32_t duration);
 
-/* The reserve factor into out (1 number), t five numbers. Answers 0 or the number refused (6, 7, 8, 12, 13). 255 if t has not five
-   numbers or out none. */
+/* The reserve factor into out (1 number), t five numbers exactly. Answers 0 or the number refused (6, 7, 8, 12, 13, in this order), out
+   untouched. 255 if t has not five numbers or out none. */
 uint8_t ltd_reserve_factor(const uint32_t *rates, size_t rates_len, uint32_t cell, uint32_t first, const uint64_t *t, size_t t_len,
                            uint32_t months, double v, double *out, size_t out_len);
 
 /* The limit on reserves, over at most 2,000 open claims, each three numbers of open_claims: cell, next duration above 24, months left. Into
    totals (2 numbers) the reserve factors added up with t (five numbers), and with t replaced by 1,300,000 in groups 3 to 5, group 3 kept
    if group_3_count is 5,000 or more; into t_out (5 numbers) the replaced set if the first total is less, else t. Answers 0 or the number
-   refused (6, 7, 8, 12, 13, 17), t_out and totals untouched. 255 if t has not five numbers, t_out is shorter than 5 or totals than 2. */
+   refused, t_out and totals untouched: first 17, if there are more than 2,000 claims or a part of one at the end; then the claims in
+   order, each by ltd_reserve_factor's 6, 7, 8, 12, 13 and behind them 17, if its duration is 24 or less. 255 if t has not exactly five
+   numbers, t_out is shorter than 5 or totals than 2. */
 uint8_t ltd_reserve_limit(const uint32_t *rates, size_t rates_len, const uint32_t *open_claims, size_t open_claims_len, const uint64_t *t,
                           size_t t_len, uint64_t group_3_count, double v, uint64_t *t_out, size_t t_out_len, double *totals,
                           size_t totals_len);
 
-/* The small company rule, over claims, 32 bytes each, one record after the other, as many as there are. Into out (9 numbers): 1 for an exempt
-   carrier, else 0; open claims disabled within two years of date, the same day two years before included, and open claims disabled
-   earlier; a group; five T. A carrier is exempt if these counts are below 50 and 200: it has group 0 and five T of 1,000,000. Another has
-   new_t, and the first group in which ten times the difference of new_t and old_t exceeds old_t, or 0. Answers 0 or the number refused, out
-   untouched: 2 (date), then 11 (a part of a record at the end, or a record whose bytes 25 to 31 are not all zero), then the first claim's
-   2 to 5 or 16, closed claims too. 255 if new_t or old_t has not five numbers or out is shorter than 9. */
+/* The small company rule, over claims, 32 bytes each, one record after the other, as many as there are. Into out (9 numbers): 1 for an
+   exempt carrier, else 0; open claims disabled within two years of date, and open claims disabled earlier; a group; five T. The same day
+   two years before counts as within; of a 29 February that day is the 28th; where it lies before 1950 every day from 1950 on counts as
+   within. Claims disabled after date count in neither. A carrier is exempt if these counts are below 50 and 200: it has group 0 and five T
+   of 1,000,000. Another has new_t, and the first group in which ten times the difference of new_t and old_t exceeds old_t, or 0. Answers 0
+   or the number refused, out untouched: 2 (date), then 11 (a part of a record at the end, or a record whose bytes 25 to 31 are not all
+   zero), then the first claim's 2 to 5 or 16, closed claims too. 255 if new_t or old_t has not exactly five numbers or out is shorter than
+   9. */
 uint8_t ltd_small_company(uint32_t date, const uint8_t *claims, size_t claims_len, const uint64_t *new_t, size_t new_t_len,
                           const uint64_t *old_t, size_t old_t_len, uint64_t *out, size_t out_len);
 
@@ -194,7 +201,8 @@ uint64_t ltd_read_block(const uint8_t *block, size_t block_len, uint32_t due, ui
    zero, a block that has not 512 bytes. */
 uint8_t ltd_write_block(uint32_t number, const uint8_t *claims, size_t claims_len, uint8_t *block, size_t block_len);
 
-/* Writes block 0 with a window's dates into block (512 bytes). Answers 0 or 11. */
+/* Writes block 0 with a window's dates, any two numbers, into block (512 bytes exactly). Answers 0, or 11 with block untouched: a block that
+   has not 512 bytes. */
 uint8_t ltd_write_window(uint32_t first, uint32_t last, uint8_t *block, size_t block_len);
 
 /* The version of the engine that is linked: LTD_VERSION of its own header. */
