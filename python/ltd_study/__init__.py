@@ -16,6 +16,10 @@ A whole claim file, also with corrections, and the months of one claim:
     study = ltd_study.file_study("portfolio.claims", rates, corrected=True)
     ltd_study.listing(claim, "2010-01-01", "2014-12-31")
 
+The sums of each month of duration, of which each group of the study is the total:
+
+    ltd_study.durations("portfolio.claims", rates).rows[35].recovery    # duration 36
+
 Many claims at once, from lists, arrays or a data frame's columns that are named as Claim's fields are, and their months as columns:
 
     claims = ltd_study.Claims(**frame)
@@ -34,6 +38,7 @@ from .claim import CODE_WORDS, STATUS_WORDS, Claim
 from .claim_columns import Claims
 from .claim_file import ClaimFile, Record, RefusedFile, file_study, write_claims
 from .dates import NoDate
+from .duration_rows import Durations, RefusedDurations, durations
 from .library import NoLibrary
 from .month_listing import Listings, MonthRecord, listing, listings
 from .rates import Rates
@@ -50,6 +55,7 @@ __all__ = [
     "Claim",
     "ClaimFile",
     "Claims",
+    "Durations",
     "Factor",
     "GROUPS",
     "GroupSums",
@@ -60,12 +66,14 @@ __all__ = [
     "Rates",
     "Record",
     "Refused",
+    "RefusedDurations",
     "RefusedFile",
     "ReserveLimit",
     "STATUS_WORDS",
     "SmallCompany",
     "Study",
     "WORDS",
+    "durations",
     "factor",
     "file_study",
     "listing",

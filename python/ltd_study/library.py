@@ -45,6 +45,8 @@ _CALLS: Dict[str, Tuple[type, Tuple[type, ...]]] = {
     "ltd_prepared_file_study": (_byte, _file_run),
     "ltd_corrected_study": (_byte, _file_run),
     "ltd_prepared_corrected_study": (_byte, _file_run),
+    "ltd_durations": (_byte, _file_run),
+    "ltd_prepared_durations": (_byte, _file_run),
     "ltd_factor": (_byte, (_byte, _u32, _i64, *_lent)),
     "ltd_wanted_count": (_u64, (_byte, _i64, _u64)),
     "ltd_valuation_rate": (_u64, (*_lent, _u32, _u64, _u32)),

@@ -5,6 +5,7 @@ from typing import List, NamedTuple, Sequence, Tuple
 
 from ..claim import CODE_WORDS
 from ..study import GROUPS, GroupSums
+from .crude_rates import CrudeRate, crude_rates
 from .figures import counted, durations, group_names, interval_text, months, whole
 from .parts import Part
 from .ratios import Ratio, ratios_of
@@ -24,6 +25,11 @@ _HEAD_ROW = 24
 _LEGEND_ROW = 18
 _LEGEND_PLACES = (0, 104, 200, 316)
 _NARROWEST_LABELLED = 18
+_PLOT_LEFT = 62
+_PLOT_RIGHT = 414
+_PLOT_TOP = 30
+_PLOT_BOTTOM = 216
+_MOST_IN_WORDS = 12
 CATEGORIES = tuple(CODE_WORDS[category] for category in range(1, 6))
 
 
@@ -84,6 +90,10 @@ class _Drawing:
         self._pieces.append(f'<path d="M{low:.1f} {y - 4:.1f}V{y + 4:.1f}M{low:.1f} {y:.1f}H{high:.1f}" class="whisker"/>')
         end = f"M{high - 5:.1f} {y - 4:.1f}L{high:.1f} {y:.1f}L{high - 5:.1f} {y + 4:.1f}" if cut else f"M{high:.1f} {y - 4:.1f}V{y + 4:.1f}"
         self._pieces.append(f'<path d="{end}" class="whisker"/>')
+
+    def path(self, points: Sequence[Tuple[float, float]], kind: str) -> None:
+        """A line from point to point."""
+        self._pieces.append(f'<path d="M{"L".join(f"{x:.1f} {y:.1f}" for x, y in points)}" class="{kind}"/>')
 
     def label(self, y: float, first: str, second: str) -> None:
         """A row's name at its left, in two lines if it has them."""
@@ -211,3 +221,57 @@ def _stacked(drawing: _Drawing, y: float, sums: GroupSums, scale: float) -> None
 def _closing_words(sums: GroupSums) -> str:
     named = [f"{whole(count)} {category}" for category, count in zip(CATEGORIES, sums[1:6]) if count]
     return counted(sums.closings, "closing") + (f" ({', '.join(named)})" if named else "")
+
+
+def rate_chart(name: str, title: str, rows: Sequence[Tuple[int, GroupSums]], kind: int) -> Chart:
+    """Crude monthly rates over durations, each with its interval, beside the table's; 0 is recoveries, 1 is deaths. A row stands at its first duration."""
+    found = [(duration, crude_rates(sums)[kind]) for duration, sums in rows if sums.thirtieths > 0]
+    drawing = _Drawing()
+    if not found:
+        drawing.text(0, 17, "no exposure", "small")
+        return drawing.chart(name, title, _HEAD_ROW, f"{title}. No exposure.")
+    durations_shown = [duration for duration, _ in found]
+    first, last, most = durations_shown[0], max(durations_shown[-1], durations_shown[0] + 1), _most_rate([rate for _, rate in found])
+
+    def place(duration: int, rate: float) -> Tuple[float, float]:
+        x = _PLOT_LEFT + (_PLOT_RIGHT - _PLOT_LEFT) * (duration - first) / (last - first)
+        return x, _PLOT_BOTTOM - (_PLOT_BOTTOM - _PLOT_TOP) * min(rate, most) / most
+
+    _rate_axes(drawing, first, last, most)
+    for duration, rate in found:
+        x, y = place(duration, rate.value or 0.0)
+        if rate.interval is not None:
+            drawing.path([place(duration, end) for end in rate.interval], "whisker")
+        drawing.box(x - 1.5, y - 1.5, 3, 3, "bar")
+    expected = [place(duration, rate.expected_value or 0.0) for duration, rate in found]
+    drawing.path([*expected, (expected[-1][0] + 0.1, expected[-1][1])], "one line")
+    return drawing.chart(name, title, _PLOT_BOTTOM + 24, f"{title}. {_rate_words(found)}.")
+
+
+def _most_rate(rates: Sequence[CrudeRate]) -> float:
+    """Where the axis ends: past every rate, and past the intervals as long as these don't make all else low."""
+    highest = max([0.000_001, *(max(rate.value or 0.0, rate.expected_value or 0.0) for rate in rates)])
+    ends = [rate.interval[1] for rate in rates if rate.interval is not None]
+    return max(1.05 * highest, min(max([0.0, *ends]), 2 * highest))
+
+
+def _rate_axes(drawing: _Drawing, first: int, last: int, most: float) -> None:
+    drawing.box(_PLOT_LEFT, 4, 7, 7, "bar")
+    drawing.text(_PLOT_LEFT + 12, 12, "crude, with 95 % interval", "small")
+    drawing.path([(_PLOT_LEFT + 170, 8), (_PLOT_LEFT + 194, 8)], "one line")
+    drawing.text(_PLOT_LEFT + 200, 12, "the table's", "small")
+    drawing.upright(_PLOT_LEFT, _PLOT_TOP, _PLOT_BOTTOM, "axis")
+    drawing.path([(_PLOT_LEFT, _PLOT_BOTTOM), (_PLOT_RIGHT, _PLOT_BOTTOM)], "axis")
+    for share in (0, 0.5, 1):
+        y = _PLOT_BOTTOM - (_PLOT_BOTTOM - _PLOT_TOP) * share
+        drawing.text(_PLOT_LEFT - 6, y + 4, f"{most * share:.4f}", "small", "end")
+    for duration, anchor in ((first, "start"), ((first + last) // 2, "middle"), (last, "end")):
+        x = _PLOT_LEFT + (_PLOT_RIGHT - _PLOT_LEFT) * (duration - first) / (last - first)
+        drawing.text(x, _PLOT_BOTTOM + 16, f"{duration} months" if duration == last else str(duration), "small", anchor)
+
+
+def _rate_words(found: Sequence[Tuple[int, CrudeRate]]) -> str:
+    """Some of the rates in words, evenly over the durations: all of them stand in the table."""
+    step = -(-len(found) // _MOST_IN_WORDS)
+    told = [f"duration {duration}: {rate.text} for {rate.expected_text} expected" for duration, rate in found[::step]]
+    return "; ".join(told)

@@ -9,7 +9,7 @@ from typing import Callable, List, Optional
 from .. import dates, version
 from ..library import NoLibrary
 from ..refusals import Refused
-from . import committee, conversions, inspections, mapping, provenance, studies, valuation_arguments, values
+from . import by_duration, committee, conversions, inspections, mapping, provenance, studies, valuation_arguments, values
 from .csv_rows import whole_number
 from .extract_map import DELIMITERS, ENCODINGS
 from .talk import DATA_REFUSED, WRONG_USE, DataRefused, WrongUse, put, say
@@ -119,12 +119,16 @@ def _window(parser: argparse.ArgumentParser) -> None:
     parser.add_argument("--window", nargs=2, type=_day, metavar=("FIRST", "LAST"), help="another window than the file's")
 
 
+def _accepted(parser: argparse.ArgumentParser) -> None:
+    parser.add_argument("--accepted", action="store_true", help="leave out the claims that are refused, and list them by number and reason")
+
+
 def _chosen(parser: argparse.ArgumentParser) -> None:
     """What a command that studies claims can be asked of them: choosing.choose reads it."""
     _claims_and_rates(parser)
     _corrected(parser)
     _window(parser)
-    parser.add_argument("--accepted", action="store_true", help="leave out the claims that are refused, and list them by number and reason")
+    _accepted(parser)
 
 
 def _shown(parser: argparse.ArgumentParser) -> None:
@@ -152,6 +156,7 @@ def parser() -> argparse.ArgumentParser:
     _add_conversions(commands)
     _add_inspections(commands)
     _add_studies(commands)
+    _add_durations(commands)
     committee.add(commands, _command)
     valuation_arguments.add(commands, _command, _day, _shown)
     return top
@@ -271,6 +276,15 @@ def _add_studies(commands: "argparse._SubParsersAction") -> None:
     pool.add_argument("studies", metavar="STUDY.json", nargs="+")
     pool.add_argument("--again", action="store_true", help="pool studies of one claim file all the same: its claims count again")
     _shown(pool)
+
+
+def _add_durations(commands: "argparse._SubParsersAction") -> None:
+    says = "the sums and crude rates of each month of duration"
+    found = _command(commands, "durations", by_duration.durations, says, about=by_duration.ABOUT, example=by_duration.EXAMPLE)
+    _claims_and_rates(found)
+    _window(found)
+    _accepted(found)
+    by_duration.arguments(found, _count)
 
 
 def main(arguments: Optional[List[str]] = None) -> int:

@@ -5,38 +5,39 @@ import json
 from argparse import Namespace
 from typing import Any, Callable, Dict, List, Optional, Sequence, Tuple
 
-from ..study import GROUPS, SUM_NAMES, THIRTIETHS, GroupSums, total
+from ..study import GROUPS, SUM_NAMES, GroupSums, total
 from . import provenance, published
-from .charts import closings_chart, exposure_chart, group_bars, ratio_chart
+from .charts import closings_chart, exposure_chart, group_bars, rate_chart, ratio_chart
+from .crude_rates import CRUDE_NOTE, KINDS, crude_rates
 from .csv_rows import csv_bytes
-from .figures import counted, interval_text, months, quotient, whole
-from .intervals import POISSON_WORDS, WILSON_WORDS, Interval, wilson
+from .duration_reports import duration_table
+from .figures import counted, months, whole
+from .intervals import POISSON_WORDS
 from .page import NOTES, Heading, Judged, Section, Source, page_of
 from .published import Published
 from .ratios import ratios_of
 from .reports import GROUP_COLUMNS, GroupFigures, beside_rows, beside_table, group_rows, set_tables, sums_dict
 from .tables import Column, Row, Table, printed
-from .talk import DATA_REFUSED, DONE, DataRefused, put, put_bytes, read_bytes, say
+from .talk import DATA_REFUSED, DONE, DataRefused, WrongUse, put, put_bytes, read_bytes, say
 from .totals import NO_FACTORS, Total, add_up, all_rows_beside, verdict
 from .whole_files import write_whole
 
 FORMAT = "ltd total 1"
-_RATE_PLACES = 6
 _HASH_SHOWN = 16
-_CRUDE_NOTE = f"Crude monthly rates are recoveries, or deaths, over months of exposure. {WILSON_WORDS}, blank with no exposure."
 
 
 def add(commands: "argparse._SubParsersAction", command: Callable[..., argparse.ArgumentParser]) -> None:
     """The command's arguments."""
     about = (
-        "The files are what 'study --json' and 'years --json' print, of one window and one rate table; a study and the\n"
-        "years of the same claims count once. Each is checked: closings not over claims taken, no count below zero,\n"
-        "totals, ratios, z, m and T that follow from the sums, years that total their window. There is no limit of\n"
-        "500,000 claims, and so a total has no z, m and T."
+        "The files are what 'study --json', 'years --json' and 'durations --json' print, of one window and one rate\n"
+        "table; durations are added up apart from studies. A study and the years of the same claims count once. Each\n"
+        "file is checked: closings not over claims taken, no count below zero, totals, ratios, rates, z, m and T that\n"
+        "follow from the sums, years that total their window. There is no limit of 500,000 claims, and so a total has\n"
+        "no z, m and T."
     )
     example = "./ltd total first.json first-years.json second.json --html total.html"
     made = command(commands, "total", total_of_carriers, "add up what carriers publish", about=about, example=example)
-    made.add_argument("files", metavar="FILE.json", nargs="+", help="a study or its years, saved by --json, best with --carrier NAME")
+    made.add_argument("files", metavar="FILE.json", nargs="+", help="a study, its years or its durations, saved by --json, best with --carrier NAME")
     made.add_argument("--again", action="store_true", help="count the same claims twice where two files are of the same claims")
     form = made.add_mutually_exclusive_group()
     form.add_argument("--json", action="store_true", help="print JSON, with both sets of sums")
@@ -53,6 +54,8 @@ def total_of_carriers(asked: Namespace) -> int:
         found = add_up(files, asked.again)
     except ValueError as error:
         raise DataRefused(str(error)) from None
+    if asked.weighted and not found.by_group:
+        raise WrongUse("--weighted: rows by duration go by count")
     words, holds = verdict(found), not found.differences
     lines = [
         f"{found.window.first} to {found.window.last}: {counted(found.claims_taken, 'claim')} taken by {counted(len(found.entries), 'carrier')}",
@@ -68,7 +71,7 @@ def total_of_carriers(asked: Namespace) -> int:
     elif asked.csv:
         put_bytes(csv_bytes(_CSV_HEADER, _csv_rows(found, asked.weighted)))
     else:
-        notes = [f"{POISSON_WORDS}.", _CRUDE_NOTE, *[words] * bool(words)]
+        notes = [f"{POISSON_WORDS}.", CRUDE_NOTE, *[words] * bool(words)]
         put("\n".join(["Total of " + "\n".join(lines) + "\n", *map(printed, _tables(found, asked.weighted)), *notes]) + "\n")
     if not holds:
         say(words)
@@ -87,7 +90,9 @@ def _tables(found: Total, weighted: bool) -> List[Table]:
 
 
 def _figure_tables(found: Total, weighted: bool) -> List[Table]:
-    """The tables of a set, by count with the crude rates."""
+    """The tables of a set, by count with the crude rates; of durations the one table of their rows."""
+    if not found.by_group:
+        return [duration_table("Sums by duration", [(row.band, row.count) for row in found.rows])]
     groups = [GroupFigures(i, row.weighted if weighted else row.count) for i, row in enumerate(found.rows, 1)]
     exposure, ratio, apart, expected = set_tables(groups, not weighted)
     return [exposure, ratio, apart, expected] if weighted else [exposure, ratio, apart, _crude_table(groups), expected]
@@ -99,28 +104,20 @@ def _file_table(found: Total) -> Table:
     rows = []
     for entry in found.entries:
         closed = sum(row.count.closings for row in entry.whole.rows)
-        kinds = " and ".join("years" if file.parts else "study" for file in entry.files)
+        kinds = " and ".join(file.kind for file in entry.files)
         names = ", ".join(f"{file.name} {file.sha256[:_HASH_SHOWN]}" for file in entry.files)
         rows.append(Row((entry.carrier, whole(entry.whole.claims_taken), whole(closed), "with" if entry.whole.corrected else "without", kinds, names)))
     closed = sum(row.count.closings for row in found.rows)
     return Table("What was added", columns, [*rows, Row(("all", whole(found.claims_taken), whole(closed), "", "", ""), summary=True)])
 
 
-def _crude(count: int, sums: GroupSums) -> Tuple[str, Optional[Interval]]:
-    """A crude monthly rate and its interval; blank with no exposure."""
-    if sums.thirtieths <= 0:
-        return "", None
-    return quotient(THIRTIETHS * count, sums.thirtieths, _RATE_PLACES), wilson(count, sums.months)
-
-
 def _crude_table(groups: Sequence[GroupFigures]) -> Table:
-    kinds = tuple(Column(kind, unit) for kind in ("recoveries", "deaths") for unit in ("monthly rate", "95 % interval"))
+    kinds = tuple(Column(kind, unit) for kind in KINDS for unit in ("monthly rate", "95 % interval"))
 
     def cells(sums: GroupSums) -> Tuple[str, ...]:
         found = [months(sums.thirtieths)]
-        for count in (sums.recovery, sums.death):
-            rate, interval = _crude(count, sums)
-            found += rate, interval_text(interval, _RATE_PLACES)
+        for rate in crude_rates(sums):
+            found += rate.text, rate.interval_text
         return tuple(found)
 
     last = Row(("all", "", *cells(total(group.sums for group in groups))), summary=True)
@@ -145,22 +142,29 @@ def _years_tables(found: Total, weighted: bool) -> List[Table]:
 def _page(heading: Heading, found: Total, weighted: bool, words: str, holds: bool) -> str:
     sections = [Section(_file_table(found))]
     for of_set in (False, True)[: 1 + weighted]:
-        exposure, ratio, *others = _figure_tables(found, of_set)
+        first, *others = _figure_tables(found, of_set)
         sums = [row.weighted if of_set else row.count for row in found.rows]
-        sections += [*_charted(exposure, ratio, sums, of_set), *map(Section, others)]
+        sections += [*_charted(first, others.pop(0), sums, of_set), *map(Section, others)] if others else [_by_duration(first, found)]
     sections += map(Section, _years_tables(found, weighted))
-    return page_of(heading, Judged(words, holds) if words else None, sections, foot=(*NOTES, _CRUDE_NOTE, NO_FACTORS))
+    return page_of(heading, Judged(words, holds) if words else None, sections, foot=(*NOTES, CRUDE_NOTE, NO_FACTORS))
 
 
 def _charted(exposure: Table, ratio: Table, sums: Sequence[GroupSums], weighted: bool) -> List[Section]:
-    """Both tables with charts beside them, where the rows are the five groups."""
-    bars = group_bars(sums) if len(sums) == len(GROUPS) else []
+    """Both tables with charts beside them."""
+    bars = group_bars(sums)
     if not bars:
         return [Section(exposure), Section(ratio)]
     name, more = ("weighted-", ", weighted by benefit") if weighted else ("", "")
     charts = [exposure_chart(f"{name}exposure", f"Exposure by group{more}, in months", bars)]
     charts.append(closings_chart(f"{name}closings", f"Closings by group{more}", bars))
     return [Section(exposure, charts), Section(ratio, [ratio_chart(f"{name}ratio", f"Actual to expected by group{more}", sums, not weighted)])]
+
+
+def _by_duration(table: Table, found: Total) -> Section:
+    """The table of durations with charts of its rates."""
+    rows = [(row.band[0], row.count) for row in found.rows]
+    charts = [rate_chart(f"{kind}-rates", f"Crude monthly rates of {kind} and the table's", rows, i) for i, kind in enumerate(KINDS)]
+    return Section(table, charts)
 
 
 _CSV_HEADER = ("set", "row", "first_duration", "last_duration", *SUM_NAMES, "months", "actual", "expected")
@@ -182,9 +186,8 @@ def _csv_figures(sums: GroupSums, by_count: bool) -> List[object]:
     figures: List[object] = [*sums, months(sums.thirtieths).replace(",", ""), sums.terminations, sums.expected]
     for ratio in ratios_of(sums, by_count):
         figures += [ratio.text.replace(",", ""), *(ratio.interval or ("", ""))]
-    for count in (sums.recovery, sums.death):
-        rate, interval = _crude(count, sums) if by_count else ("", None)
-        figures += [rate.replace(",", ""), *(interval or ("", ""))]
+    for rate in crude_rates(sums):
+        figures += [rate.text.replace(",", ""), *(rate.interval or ("", ""))] if by_count else [""] * 3
     return figures
 
 
@@ -193,7 +196,7 @@ def _as_dict(found: Total, words: str, holds: bool) -> Dict[str, Any]:
     files = [
         {
             "carrier": entry.carrier,
-            "files": [{"name": file.name, "sha256": file.sha256, "published": "years" if file.parts else "study"} for file in entry.files],
+            "files": [{"name": file.name, "sha256": file.sha256, "published": file.kind} for file in entry.files],
             "claims_sha256": entry.whole.claims_sha256 or None,
             "claims_taken": entry.whole.claims_taken,
             "corrected": entry.whole.corrected,
@@ -201,7 +204,7 @@ def _as_dict(found: Total, words: str, holds: bool) -> Dict[str, Any]:
         for entry in found.entries
     ]
     header = _CSV_HEADER
-    rows = [{name: None if figure == "" else figure for name, figure in zip(header, row)} for row in _csv_rows(found, True)]
+    rows = [{name: None if figure == "" else figure for name, figure in zip(header, row)} for row in _csv_rows(found, found.by_group)]
     return {
         "format": FORMAT,
         "window": {"first": str(found.window.first), "last": str(found.window.last)},

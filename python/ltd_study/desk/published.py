@@ -5,17 +5,16 @@ import json
 from typing import Any, Callable, Dict, List, NamedTuple, Optional, Tuple
 
 from .. import dates
-from ..study import GROUPS, GroupSums, Study, total
+from ..study import GROUPS, SUM_NAMES, GroupSums, Study, total
+from .duration_reports import Band, bands, row_dict
 from .parts import Divided, Part
 from .reports import years_sets
-from .saved_figures import hash_in, must_follow, part_in, study_in, text_in
+from .saved_figures import hash_in, must_be_rows, must_follow, part_in, study_in, text_in, whole_in
 from .study_json import FORMAT as STUDY_FORMAT
 from .study_json import OLDER_FORMATS, of_dict
 
 YEARS_FORMAT = "ltd years 1"
-
-Band = Tuple[int, Optional[int]]
-"""First and last duration of a row; None where it has all later ones."""
+DURATIONS_FORMAT = "ltd durations 1"
 
 
 class Row(NamedTuple):
@@ -41,6 +40,13 @@ class Published(NamedTuple):
     claims_taken: int
     rows: List[Row]
     parts: List[Tuple[Part, List[Row]]]
+
+    @property
+    def kind(self) -> str:
+        """In a word."""
+        if [row.band for row in self.rows] != list(GROUPS):
+            return "durations by year" if self.parts else "durations"
+        return "years" if self.parts else "study"
 
 
 def read(name: str, data: bytes) -> Published:
@@ -90,11 +96,30 @@ def _years(found: Dict[str, Any]) -> "Figures":
     return claims, whole.claims_taken, _rows(whole.groups, whole.weighted), [(part, _rows(study.groups, study.weighted)) for part, study in parts]
 
 
+def _durations(found: Dict[str, Any]) -> "Figures":
+    """Rows by duration, and those of the years where they were asked for. They go by count: their weighted sums are zeros, and not shown."""
+    whole = _duration_rows(found)
+    parts = [(part_in(part), _duration_rows(part)) for part in found["parts"]]
+    if found["adds_up"] is not True or any([row.band for row in rows] != [row.band for row in whole] for _, rows in parts):
+        raise ValueError("its rows do not add up")
+    if parts:
+        _must_follow_one_another([part for part, _ in parts], part_in(found["window"]))
+    return (hash_in(found["claims_sha256"], "claims_sha256"),), whole_in(found["claims_taken"], "claims_taken"), whole, parts
+
+
+def _duration_rows(found: Dict[str, Any]) -> List[Row]:
+    sums = [GroupSums(*(whole_in(row[name], name) for name in SUM_NAMES)) for row in found["rows"]]
+    rows = [Row(band, row, GroupSums()) for band, row in zip(bands(len(sums)), sums)]
+    must_follow(found["rows"], [row_dict(row.band, row.count) for row in rows], "rows")
+    must_be_rows(whole_in(found["claims_taken"], "claims_taken"), sums)
+    return rows
+
+
 Figures = Tuple[Tuple[str, ...], int, List[Row], List[Tuple[Part, List[Row]]]]
 """The claim files' fingerprints, claims taken, the window's rows, and the parts'."""
 
-READERS: Dict[str, Callable[[Dict[str, Any]], Figures]] = {STUDY_FORMAT: _study, YEARS_FORMAT: _years}
-"""A reader for each format; a table by duration is one more."""
+READERS: Dict[str, Callable[[Dict[str, Any]], Figures]] = {STUDY_FORMAT: _study, YEARS_FORMAT: _years, DURATIONS_FORMAT: _durations}
+"""A reader for each format."""
 
 
 def _rows(groups: List[GroupSums], weighted: List[GroupSums]) -> List[Row]:
@@ -111,9 +136,13 @@ def _check(published: Published) -> None:
 
 
 def _check_parts(divided: Divided) -> None:
+    _must_follow_one_another([part for part, _ in divided.parts], Part(divided.whole.first, divided.whole.last))
+
+
+def _must_follow_one_another(parts: List[Part], whole: Part) -> None:
     """The parts follow one another from the window's first day to its last."""
-    days = [dates.day_number(day) for part, _ in divided.parts for day in part]
-    window = [dates.day_number(divided.whole.first), dates.day_number(divided.whole.last)]
+    days = [dates.day_number(day) for part in parts for day in part]
+    window = list(map(dates.day_number, whole))
     sound = bool(days) and [days[0], days[-1]] == window and days == sorted(days)
     if not sound or any(first != last + 1 for last, first in zip(days[1::2], days[2::2])):
         raise ValueError("its parts do not follow one another from the window's first day to its last")

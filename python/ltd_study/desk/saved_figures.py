@@ -60,12 +60,25 @@ def _sums(groups: List[Dict[str, Any]], name: str) -> List[int]:
 
 def _must_be_counts(claims_taken: int, groups: Sequence[GroupSums], weighted: Sequence[GroupSums]) -> None:
     """What holds in every study that the engine made, and that its calls don't ask of one handed in."""
-    if claims_taken < 0:
-        raise ValueError(f"claims_taken is {claims_taken}, and no count is negative")
     for group, (counts, by_benefit) in enumerate(zip(groups, weighted), 1):
         for name in _CLOSING_NAMES:
             _must_be_count(f"{name} of group {group}", getattr(counts, name), getattr(by_benefit, name))
-    closings = total(groups).closings
+    _must_be_taken(claims_taken, groups)
+
+
+def must_be_rows(claims_taken: int, rows: Sequence[GroupSums]) -> None:
+    """The same of rows by duration, which have no weighted set."""
+    for row, sums in enumerate(rows, 1):
+        for name in _CLOSING_NAMES:
+            if getattr(sums, name) < 0:
+                raise ValueError(f"{name} of row {row} is {getattr(sums, name)}, and no count is negative")
+    _must_be_taken(claims_taken, rows)
+
+
+def _must_be_taken(claims_taken: int, rows: Sequence[GroupSums]) -> None:
+    if claims_taken < 0:
+        raise ValueError(f"claims_taken is {claims_taken}, and no count is negative")
+    closings = total(rows).closings
     if closings > claims_taken:
         raise ValueError(f"{closings:,} closings of {claims_taken:,} claims taken, and a claim closes once")
 

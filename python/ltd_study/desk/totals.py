@@ -3,7 +3,7 @@
 from collections import defaultdict
 from typing import Dict, List, NamedTuple, Optional, Sequence, Tuple
 
-from ..study import GroupSums, total
+from ..study import GROUPS, GroupSums, total
 from .figures import counted
 from .parts import GroupBeside, Part
 from .published import Band, Published, Row
@@ -48,6 +48,11 @@ class Total(NamedTuple):
     def window(self) -> Part:
         """The one window."""
         return self.entries[0].whole.window
+
+    @property
+    def by_group(self) -> bool:
+        """Whether the rows are the five groups, and not durations."""
+        return tuple(row.band for row in self.rows) == GROUPS
 
     @property
     def claims_taken(self) -> int:
@@ -173,4 +178,5 @@ def verdict(total_of: Total) -> str:
         return f"{counted(total_of.differences, 'sum')} of the years do not total the window's. Ask the carriers for their files again."
     who = "the carrier that sent its years" if carriers == 1 else f"each of the {carriers:,} carriers that sent their years, and in total"
     words = f"Years beside the window: for {who}, every sum of the {counted(len(total_of.parts), 'part')} totals the window's, "
-    return words + "in every row, by count and weighted; every difference is 0."
+    sets = "by count and weighted" if total_of.by_group else "at every duration"
+    return words + f"in every row, {sets}; every difference is 0."

@@ -1,0 +1,137 @@
+"""durations: the sums of each month of duration, as text, CSV, JSON and a page."""
+
+import json
+from argparse import ArgumentParser, Namespace
+from typing import Any, Callable, Dict, List
+
+from ..claim_file import ClaimFile, RefusedFile, file_study
+from ..duration_rows import MOST_ROWS, USUAL_ROWS, RefusedDurations
+from ..duration_rows import durations as duration_rows
+from ..study import Study, total
+from . import parts as cutting
+from . import provenance
+from .charts import rate_chart
+from .checking import Found
+from .choosing import Chosen, choose
+from .crude_rates import CRUDE_NOTE, KINDS
+from .csv_rows import csv_bytes
+from .duration_reports import CSV_HEADER, ByDuration, OfPart, csv_rows, part_dict, part_table
+from .figures import counted
+from .page import NOTES, Heading, Judged, Section, page_of
+from .parts import Part
+from .progress import Progress
+from .published import DURATIONS_FORMAT
+from .reports import LEFT_OUT, found_dict, found_table
+from .tables import printed
+from .talk import DATA_REFUSED, DONE, DataRefused, WrongUse, put, put_bytes, say, say_note
+from .whole_files import write_whole
+
+ABOUT = (
+    "A row for each month of duration, by count; the last row has all later ones. Crude monthly rates are\n"
+    "recoveries, or deaths, over months of exposure, with Wilson's 95 % intervals, blank with no exposure;\n"
+    "expected rates are the table's. The groups' totals under the rows are verified against the study: status\n"
+    "1 if they differ. --by-year writes the same for each calendar year, and verifies that the years total the\n"
+    "window at every duration."
+)
+EXAMPLE = "./ltd durations portfolio.claims portfolio.rates --to 121 --html durations.html"
+
+
+def arguments(parser: ArgumentParser, count: Callable[[str], int]) -> None:
+    """What can be asked of the command beside claims, rates and window."""
+    says = f"rows of one duration each up to N - 1, and one of N and all later ones (default {USUAL_ROWS}, at most {MOST_ROWS:,})"
+    parser.add_argument("--to", metavar="N", type=count, default=USUAL_ROWS, help=says)
+    parser.add_argument("--by-year", action="store_true", help="each calendar year too, verified to total the window at every duration")
+    form = parser.add_mutually_exclusive_group()
+    form.add_argument("--json", action="store_true", help="print JSON")
+    form.add_argument("--csv", action="store_true", help="print CSV: the sums as the engine has them, rates with their intervals")
+    parser.add_argument("--html", metavar="FILE", help="write a page to hand on: tables and charts in one file")
+    parser.add_argument("--title", help="the page's title")
+    provenance.options(parser)
+    parser.set_defaults(corrected=False)
+
+
+def durations(asked: Namespace) -> int:
+    """The rows of a claim file; status 1 if they don't total its study."""
+    if not 1 <= asked.to <= MOST_ROWS:
+        raise WrongUse(f"--to {asked.to}: the last row's duration is from 1 to {MOST_ROWS:,}")
+    chosen = choose(asked)
+    found = _by_duration(asked, chosen)
+    _show(asked, chosen, found)
+    if not found.holds:
+        say(found.words)
+    return DONE if found.holds else DATA_REFUSED
+
+
+def _by_duration(asked: Namespace, chosen: Chosen) -> ByDuration:
+    whole_study = chosen.study()
+    window = Part(whole_study.first, whole_study.last)
+    whole = _of_part(chosen, chosen.file, window, asked.to, whole_study)
+    if not asked.by_year:
+        return ByDuration(whole, [])
+    years = cutting.calendar_years(*window)
+    parts: List[OfPart] = []
+    with Progress("studying the years", len(years)) as progress:
+        for i, year in enumerate(years):
+            progress.at(i)
+            file = chosen.file.with_window(*year)
+            parts.append(_of_part(chosen, file, year, asked.to, file_study(file, chosen.rates)))
+    return ByDuration(whole, parts)
+
+
+def _of_part(chosen: Chosen, file: ClaimFile, part: Part, last: int, study: Study) -> OfPart:
+    try:
+        return OfPart(part, duration_rows(file, chosen.rates, last), study)
+    except RefusedDurations as refused:
+        # The engine refuses both runs alike, so the study was refused before.
+        raise DataRefused(chosen.refusal(RefusedFile(refused.number, refused.block or 0, refused.place or 0, study))) from None
+
+
+def _show(asked: Namespace, chosen: Chosen, found: ByDuration) -> None:
+    whole = found.whole
+    lines = [f"{whole.part.first} to {whole.part.last}: {counted(whole.found.claims_taken, 'claim')} taken"]
+    lines += [f"carrier: {asked.carrier}"] * bool(asked.carrier) + chosen.lines
+    for note in chosen.notes:
+        say_note(note)
+    if asked.html is not None:
+        made = (provenance.sources_of(asked, chosen.sources), provenance.lines(asked, asked.carrier))
+        heading = Heading(asked.title or "Disability study by duration", lines, *made, chosen.notes)
+        write_whole(asked.html, _page(heading, found, chosen.left_out).encode("utf-8", "backslashreplace"))
+    if asked.json:
+        put(json.dumps(_as_dict(asked, chosen, found), indent=2) + "\n")
+    elif asked.csv:
+        put_bytes(csv_bytes(CSV_HEADER, [row for one in (whole, *found.parts) for row in csv_rows(one)]))
+    else:
+        notes = [f"note: {note}" for note in chosen.notes]
+        tables = [part_table("Sums by duration", whole), *(part_table(f"The same in {one.part.label}", one) for one in found.parts)]
+        tables += [found_table(LEFT_OUT, chosen.left_out)] if chosen.left_out else []
+        put("\n".join(["By duration " + "\n".join([*lines, *notes]) + "\n", *map(printed, tables), CRUDE_NOTE, found.words]) + "\n")
+
+
+def _page(heading: Heading, found: ByDuration, left_out: List[Found]) -> str:
+    whole = found.whole
+    rows = list(zip((first for first, _ in whole.bands), whole.found.rows))
+    charts = [rate_chart(f"{kind}-rates", f"Crude monthly rates of {kind} and the table's", rows, i) for i, kind in enumerate(KINDS)]
+    sections = [Section(part_table("Sums by duration", whole))]
+    sections += [Section(part_table(f"The same in {one.part.label}", one)) for one in found.parts]
+    sections += [Section(found_table(LEFT_OUT, left_out))] if left_out else []
+    return page_of(heading, Judged(found.words, found.holds), sections, charts, foot=(*NOTES, CRUDE_NOTE))
+
+
+def _as_dict(asked: Namespace, chosen: Chosen, found: ByDuration) -> Dict[str, Any]:
+    whole = found.whole
+    parts = [{"label": one.part.label, "first": str(one.part.first), "last": str(one.part.last), **part_dict(one)} for one in found.parts]
+    return {
+        "format": DURATIONS_FORMAT,
+        "window": {"first": str(whole.part.first), "last": str(whole.part.last)},
+        "corrected": False,
+        "carrier": asked.carrier,
+        "claims_sha256": chosen.sources[0].sha256,
+        "rates_sha256": chosen.rates.sha256,
+        "engine": provenance.engine(),
+        "repeated_numbers": chosen.repeated,
+        "left_out": [found_dict(one) for one in chosen.left_out],
+        "adds_up": found.holds,
+        **part_dict(whole),
+        "all": dict(total(whole.found.rows)._asdict()),
+        "parts": parts,
+    }
