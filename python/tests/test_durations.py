@@ -133,10 +133,14 @@ class Command(DeskTest):
         self.assertIn("Wilson's", ended.out)
         page = Page((self.folder / "x.html").read_text())
         table = page.tables["Sums by duration"]
-        self.assertEqual([row[0] for row in table[1:]], [*map(str, range(1, 25)), "over 24", "group 1: 1 to 3", "group 2: 4 to 24", "all"])
+        names = [*map(str, range(1, 25)), "over 24", "group 1: 1 to 3", "group 2: 4 to 24", "all"]
+        self.assertEqual([row[0] for row in table[1:]], names)
+        rates = page.tables["Crude monthly rates by duration"]
+        self.assertEqual([row[0] for row in rates[1:]], names)
         want = rows_by_listings(self.claims, self.rates, 25)[23]
         self.assertEqual(table[24][2:4], [f"{want.recovery:,}", f"{want.death:,}"])
         self.assertEqual(table[24][4], f"{want.settlement + want.max_out + want.limit:,}")
+        self.assertEqual(rates[24][1:], [text for rate in crude_rates(want) for text in (rate.text, rate.interval_text, rate.expected_text)])
         self.assertEqual(len(page.drawings), 2)
         for drawing, rate in zip(page.drawings, crude_rates(want)):
             self.assertIn("95 % interval", drawing)

@@ -15,14 +15,14 @@ from .checking import Found
 from .choosing import Chosen, choose
 from .crude_rates import CRUDE_NOTE, KINDS
 from .csv_rows import csv_bytes
-from .duration_reports import CSV_HEADER, ByDuration, OfPart, csv_rows, part_dict, part_table
+from .duration_reports import CSV_HEADER, ByDuration, OfPart, csv_rows, part_dict, part_tables
 from .figures import counted
 from .page import NOTES, Heading, Judged, Section, page_of
 from .parts import Part
 from .progress import Progress
 from .published import DURATIONS_FORMAT
 from .reports import LEFT_OUT, found_dict, found_table
-from .tables import printed
+from .tables import Table, printed
 from .talk import DATA_REFUSED, DONE, DataRefused, WrongUse, put, put_bytes, say, say_note
 from .whole_files import write_whole
 
@@ -102,7 +102,7 @@ def _show(asked: Namespace, chosen: Chosen, found: ByDuration) -> None:
         put_bytes(csv_bytes(CSV_HEADER, [row for one in (whole, *found.parts) for row in csv_rows(one)]))
     else:
         notes = [f"note: {note}" for note in chosen.notes]
-        tables = [part_table("Sums by duration", whole), *(part_table(f"The same in {one.part.label}", one) for one in found.parts)]
+        tables = _tables(found)
         tables += [found_table(LEFT_OUT, chosen.left_out)] if chosen.left_out else []
         put("\n".join(["By duration " + "\n".join([*lines, *notes]) + "\n", *map(printed, tables), CRUDE_NOTE, found.words]) + "\n")
 
@@ -111,10 +111,13 @@ def _page(heading: Heading, found: ByDuration, left_out: List[Found]) -> str:
     whole = found.whole
     rows = list(zip((first for first, _ in whole.bands), whole.found.rows))
     charts = [rate_chart(f"{kind}-rates", f"Crude monthly rates of {kind} and the table's", rows, i) for i, kind in enumerate(KINDS)]
-    sections = [Section(part_table("Sums by duration", whole))]
-    sections += [Section(part_table(f"The same in {one.part.label}", one)) for one in found.parts]
-    sections += [Section(found_table(LEFT_OUT, left_out))] if left_out else []
-    return page_of(heading, Judged(found.words, found.holds), sections, charts, foot=(*NOTES, CRUDE_NOTE))
+    tables = _tables(found) + ([found_table(LEFT_OUT, left_out)] if left_out else [])
+    return page_of(heading, Judged(found.words, found.holds), list(map(Section, tables)), charts, foot=(*NOTES, CRUDE_NOTE))
+
+
+def _tables(found: ByDuration) -> List[Table]:
+    """Those of the window, then those of each part."""
+    return part_tables(found.whole) + [table for one in found.parts for table in part_tables(one, f", {one.part.label}")]
 
 
 def _as_dict(asked: Namespace, chosen: Chosen, found: ByDuration) -> Dict[str, Any]:

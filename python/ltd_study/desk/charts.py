@@ -238,11 +238,14 @@ def rate_chart(name: str, title: str, rows: Sequence[Tuple[int, GroupSums]], kin
         return x, _PLOT_BOTTOM - (_PLOT_BOTTOM - _PLOT_TOP) * min(rate, most) / most
 
     _rate_axes(drawing, first, last, most)
+    dots = []
     for duration, rate in found:
         x, y = place(duration, rate.value or 0.0)
         if rate.interval is not None:
-            drawing.path([place(duration, end) for end in rate.interval], "whisker")
-        drawing.box(x - 1.5, y - 1.5, 3, 3, "bar")
+            drawing.path([place(duration, end) for end in rate.interval], "span")
+        dots.append((x - 1.5, y - 1.5))
+    for x, y in dots:
+        drawing.box(x, y, 3, 3, "bar")
     expected = [place(duration, rate.expected_value or 0.0) for duration, rate in found]
     drawing.path([*expected, (expected[-1][0] + 0.1, expected[-1][1])], "one line")
     return drawing.chart(name, title, _PLOT_BOTTOM + 24, f"{title}. {_rate_words(found)}.")
@@ -256,7 +259,8 @@ def _most_rate(rates: Sequence[CrudeRate]) -> float:
 
 
 def _rate_axes(drawing: _Drawing, first: int, last: int, most: float) -> None:
-    drawing.box(_PLOT_LEFT, 4, 7, 7, "bar")
+    drawing.path([(_PLOT_LEFT + 3.5, 0), (_PLOT_LEFT + 3.5, 15)], "span")
+    drawing.box(_PLOT_LEFT + 2, 6, 3, 3, "bar")
     drawing.text(_PLOT_LEFT + 12, 12, "crude, with 95 % interval", "small")
     drawing.path([(_PLOT_LEFT + 170, 8), (_PLOT_LEFT + 194, 8)], "one line")
     drawing.text(_PLOT_LEFT + 200, 12, "the table's", "small")

@@ -10,7 +10,7 @@ from . import provenance, published
 from .charts import closings_chart, exposure_chart, group_bars, rate_chart, ratio_chart
 from .crude_rates import CRUDE_NOTE, KINDS, crude_rates
 from .csv_rows import csv_bytes
-from .duration_reports import duration_table
+from .duration_reports import duration_tables
 from .figures import counted, months, whole
 from .intervals import POISSON_WORDS
 from .page import NOTES, Heading, Judged, Section, Source, page_of
@@ -90,9 +90,9 @@ def _tables(found: Total, weighted: bool) -> List[Table]:
 
 
 def _figure_tables(found: Total, weighted: bool) -> List[Table]:
-    """The tables of a set, by count with the crude rates; of durations the one table of their rows."""
+    """The tables of a set, by count with the crude rates; of durations those of their rows."""
     if not found.by_group:
-        return [duration_table("Sums by duration", [(row.band, row.count) for row in found.rows])]
+        return duration_tables([(row.band, row.count) for row in found.rows])
     groups = [GroupFigures(i, row.weighted if weighted else row.count) for i, row in enumerate(found.rows, 1)]
     exposure, ratio, apart, expected = set_tables(groups, not weighted)
     return [exposure, ratio, apart, expected] if weighted else [exposure, ratio, apart, _crude_table(groups), expected]
@@ -144,7 +144,8 @@ def _page(heading: Heading, found: Total, weighted: bool, words: str, holds: boo
     for of_set in (False, True)[: 1 + weighted]:
         first, *others = _figure_tables(found, of_set)
         sums = [row.weighted if of_set else row.count for row in found.rows]
-        sections += [*_charted(first, others.pop(0), sums, of_set), *map(Section, others)] if others else [_by_duration(first, found)]
+        sections += _charted(first, others.pop(0), sums, of_set) if found.by_group else [_by_duration(first, found)]
+        sections += map(Section, others)
     sections += map(Section, _years_tables(found, weighted))
     return page_of(heading, Judged(words, holds) if words else None, sections, foot=(*NOTES, CRUDE_NOTE, NO_FACTORS))
 

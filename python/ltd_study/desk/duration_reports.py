@@ -1,6 +1,6 @@
 """What durations are shown as: a table for text and page, rows for CSV, figures for JSON."""
 
-from typing import Dict, List, NamedTuple, Optional, Sequence, Tuple, Union
+from typing import Callable, Dict, List, NamedTuple, Optional, Sequence, Tuple, Union
 
 from ..duration_rows import Durations
 from ..study import GROUPS, SUM_NAMES, GroupSums, Study, total
@@ -16,9 +16,10 @@ Band = Tuple[int, Optional[int]]
 
 Figure = Union[int, float, str, None]
 
-_FIGURES = (Column("exposure", "months"), Column("recoveries"), Column("deaths"), Column("other closings"))
+_DURATION = Column("duration", "months", left=True)
+_SUMS = (Column("exposure", "months"), Column("recoveries"), Column("deaths"), Column("other closings"))
+_SUMS += (Column("expected", "recoveries and deaths"), Column("actual to expected"))
 _RATES = tuple(Column(kind, unit) for kind in KINDS for unit in ("monthly rate", "95 % interval", "expected rate"))
-_RATIO = (Column("expected", "recoveries and deaths"), Column("actual to expected"))
 
 
 class OfPart(NamedTuple):
@@ -95,27 +96,31 @@ def band_name(band: Band) -> str:
     return str(band[0]) if band[0] == band[1] else durations(*band)
 
 
-def duration_table(title: str, rows: Sequence[Tuple[Band, GroupSums]], groups: Sequence[Tuple[str, Band, GroupSums]] = ()) -> Table:
-    """A row for each duration, the groups' totals under them, and one for all."""
-    shown = [Row((band_name(band), *cells(sums))) for band, sums in rows]
-    shown += [Row((f"{name}: {band_name(band)}", *cells(sums)), summary=True) for name, band, sums in groups]
-    shown.append(Row(("all", *cells(total(sums for _, sums in rows))), summary=True))
-    return Table(title, (Column("duration", "months", left=True), *_FIGURES, *_RATES, *_RATIO), shown)
+def duration_tables(rows: Sequence[Tuple[Band, GroupSums]], groups: Sequence[Tuple[str, Band, GroupSums]] = (), of_part: str = "") -> List[Table]:
+    """Sums, and crude rates: a row for each duration, the groups' totals under them, and one for all."""
+
+    def table(title: str, columns: Sequence[Column], cells: Callable[[GroupSums], Tuple[str, ...]]) -> Table:
+        shown = [Row((band_name(band), *cells(sums))) for band, sums in rows]
+        shown += [Row((f"{name}: {band_name(band)}", *cells(sums)), summary=True) for name, band, sums in groups]
+        shown.append(Row(("all", *cells(total(sums for _, sums in rows))), summary=True))
+        return Table(title + of_part, (_DURATION, *columns), shown)
+
+    return [table("Sums by duration", _SUMS, _sums), table("Crude monthly rates by duration", _RATES, _rates)]
 
 
-def part_table(title: str, one: OfPart) -> Table:
+def part_tables(one: OfPart, of_part: str = "") -> List[Table]:
     """The same of a window or a part of it."""
     groups = [(f"group {group}", GROUPS[group - 1], one.of_group(group)) for group in one.groups]
-    return duration_table(title, list(zip(one.bands, one.found.rows)), groups)
+    return duration_tables(list(zip(one.bands, one.found.rows)), groups, of_part)
 
 
-def cells(sums: GroupSums) -> Tuple[str, ...]:
-    """The texts of a row."""
-    found = [months(sums.thirtieths), whole(sums.recovery), whole(sums.death), whole(sums.settlement + sums.max_out + sums.limit)]
-    for rate in crude_rates(sums):
-        found += rate.text, rate.interval_text, rate.expected_text
-    both = ratios_of(sums)[0]
-    return (*found, closings(both.expected), both.text)
+def _sums(sums: GroupSums) -> Tuple[str, ...]:
+    others, both = sums.settlement + sums.max_out + sums.limit, ratios_of(sums)[0]
+    return months(sums.thirtieths), whole(sums.recovery), whole(sums.death), whole(others), closings(both.expected), both.text
+
+
+def _rates(sums: GroupSums) -> Tuple[str, ...]:
+    return tuple(text for rate in crude_rates(sums) for text in (rate.text, rate.interval_text, rate.expected_text))
 
 
 CSV_HEADER = ("first_day", "last_day", "row", "first_duration", "last_duration", *SUM_NAMES, "months", "actual", "expected", "actual_to_expected")
