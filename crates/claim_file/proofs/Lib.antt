@@ -30,5 +30,6 @@ mod RunRecords
 mod StruckBlocks
 mod Sorting
 mod Marking
+mod Followed
 mod Slots
 mod CorrectedRuns

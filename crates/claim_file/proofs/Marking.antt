@@ -15,7 +15,7 @@ use Rattle.std.specs.List.Sorted.{IsPermutation}
 use Rattle.std.proofs.lemmas.List.Sorted.{IsPermutation-sym, length_permutation}
 use Rattle.basics.specs.Pick.{pick}
 use Rattle.basics.proofs.Tests.{by, tests, all_below, all-at}
-use Rattle.claim_file.specs.Marks.{among, superseded, marked, repeated, key_of, KeysTaken, KeyAt, ChunkKeys, HasLater, MarksTo, AllZero}
+use Rattle.claim_file.specs.Marks.{among, superseded, marked, repeated, key_of, most_key, KeysTaken, KeyAt, ChunkKeys, HasLater, MarksTo, MarksBetween, AllZero}
 use Rattle.claim_file.proofs.Sorting.{key-moved}
 
 -- bit j of the m-th power of two, of eight bits
@@ -136,7 +136,7 @@ repeated-out xs i e h =
       is = sym (p.same ∙ get_or-drop (suc i) (take e xs) p.place 0 ∙ get_or-take e xs (suc i + p.place) 0 b);
     }
 
-repeated-past : (xs : List ℕ) (i e : ℕ) → e ≤ suc i → repeated xs i e ≡ false
+pub repeated-past : (xs : List ℕ) (i e : ℕ) → e ≤ suc i → repeated xs i e ≡ false
 repeated-past xs i e h =
     by (repeated xs i e) (λ t. t ≡ false) (λ u. let a = repeated-out xs i e u in absurd (omega (arith, a.behind, a.before))) (λ _. refl)
 
@@ -182,11 +182,7 @@ module _ (xs keys : List ℕ) (s e i : ℕ) (c : ChunkKeys xs s keys) (q : s + l
       (λ u.
       by (repeated xs i s) (λ b. b ≡ false) (λ v. absurd (false≢true (sym u ∙ repeated-on xs i s e (omega arith) v))) (λ _. refl))
 
--- a bitmap while the records before e are looked up: those before i have been
-pub record MarksBetween (marks xs : List ℕ) (i s e : ℕ) : Type 0 where
-  pub done : (k : ℕ) → k < i → marked marks k ≡ repeated xs k e
-  pub left : (k : ℕ) → i ≤ k → marked marks k ≡ repeated xs k s
-
+-- a bitmap while the records before s are looked up in a chunk up to e: those before i have been
 pub between_first : (marks xs : List ℕ) (s e : ℕ) → MarksTo marks xs s → MarksBetween marks xs 0 s e
 between_first marks xs s e h = record { done = λ k l. absurd (omega arith); left = λ k l. h k }
 
@@ -202,6 +198,11 @@ between-set marks after xs i s e b t f =
       left = λ k l. f k ∙ ap (λ (z : Bool). z || marked marks k) (ne_eqb k i (λ q. omega arith)) ∙ b.left k (omega arith);
     }
 
+pub between-marked : (marks xs : List ℕ) (i s e : ℕ) → s ≤ e → MarksBetween marks xs i s e → marked marks i ≡ true → repeated xs i s ≡ repeated xs i e
+between-marked marks xs i s e h b t =
+    let r : repeated xs i s ≡ true = sym (b.left i (omega arith)) ∙ t in
+    r ∙ sym (repeated-on xs i s e h r)
+
 pub between-same : (marks xs : List ℕ) (i s e : ℕ) → MarksBetween marks xs i s e → repeated xs i s ≡ repeated xs i e → MarksBetween marks xs (i + 1) s e
 between-same marks xs i s e b t =
     record {
@@ -212,18 +213,17 @@ between-same marks xs i s e b t =
       left = λ k l. b.left k (omega arith);
     }
 
-pub between-last : (marks xs : List ℕ) (i s e : ℕ) → i ≡ e → s ≤ e → MarksBetween marks xs i s e → MarksTo marks xs e
-between-last marks xs i s e h l b k =
-    by (ltb k i) (λ _. marked marks k ≡ repeated xs k e)
-    (λ u. b.done k (omega tests))
-    (λ u. b.left k (omega tests) ∙ repeated-past xs k s (omega tests) ∙ sym (repeated-past xs k e (omega tests)))
-
 -- a bitmap of zeros before any record, and the bitmap after all
 pub marks-first : (marks xs : List ℕ) → AllZero marks → MarksTo marks xs 0
 marks-first marks xs z i = none-marked marks z i ∙ sym (repeated-past xs i 0 (omega arith))
 
 pub marks-last : (marks xs : List ℕ) → MarksTo marks xs (length xs) → (i : ℕ) → marked marks i ≡ superseded xs i
 marks-last marks xs h i = h i ∙ repeated-all xs i
+
+-- keys of a chunk have 48 bits
+pub keys-fit : (xs keys : List ℕ) (s : ℕ) → s + length keys ≤ 65536 → ((k : ℕ) → get_or xs k 0 < 4294967296) → ChunkKeys xs s keys
+    → (k : ℕ) → k < length keys → get_or keys k 0 < most_key
+keys-fit xs keys s h f c k l = let j = c.there k l in omega (arith, j.to, j.is, f j.index)
 
 -- the keys of some records, taken and sorted
 pub chunk-keys : (xs keys sorted : List ℕ) (s : ℕ) → KeysTaken (drop s xs) s (length keys) keys → IsPermutation keys sorted → ChunkKeys xs s sorted

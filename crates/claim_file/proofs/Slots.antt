@@ -224,6 +224,28 @@ all-numbers bytes h =
     file-slots bytes (sound-count 0 bytes (length bytes / 512) (eqb-true _ _ t.0.0)) (length bytes / 512) 0 (omega arith)
     ∙ ap (slot_numbers bytes 0) e
 
+-- claim numbers have 32 bits
+module _ (bytes : List ℕ) (fits : (i : ℕ) → get_or bytes i 0 < 256) where
+  pub number-fits : (at : ℕ) → four_at bytes at < 4294967296
+  unfolding four_at two_at byte_at
+  number-fits at = omega (arith, fits at, fits (at + 1), fits (at + 2), fits (at + 2 + 1))
+
+  more : (x : ℕ) (xs : List ℕ) → x < 4294967296 → ((k : ℕ) → get_or xs k 0 < 4294967296) → (k : ℕ) → get_or (x ∷ xs) k 0 < 4294967296
+  more x xs h f zero = h
+  more x xs h f (suc k) = f k
+
+  slots-fit : (n s k : ℕ) → get_or (slot_numbers bytes s n) k 0 < 4294967296
+  unfolding slot_numbers
+  slots-fit zero s k = omega arith
+  slots-fit (suc n) s k =
+      by (slot_filled bytes s) (λ t. get_or (pick t (four_at bytes (32 * s + 16) ∷ slot_numbers bytes (suc s) n) (slot_numbers bytes (suc s) n)) k 0 < 4294967296)
+      (λ _. more (four_at bytes (32 * s + 16)) (slot_numbers bytes (suc s) n) (number-fits (32 * s + 16)) (slots-fit n (suc s)) k)
+      (λ _. slots-fit n (suc s) k)
+
+  pub numbers-fit : (s k : ℕ) → get_or (numbers_from bytes s) k 0 < 4294967296
+  unfolding numbers_from
+  numbers-fit s k = slots-fit (length bytes / 32 - s) s k
+
 -- a walk over the records: from the slot where the numbers from place k on begin, the next record has the number at place k
 module _ (bytes xs : List ℕ) (k next : ℕ) (h : k < length xs) (e : numbers_from bytes next ≡ drop k xs) where
   pub walk-left : 0 < length (numbers_from bytes next)

@@ -1,5 +1,5 @@
 -- What only private functions' contracts need of a run with corrections: the records' claim numbers, and a bitmap that marks the superseded ones.
-use Rattle.std.specs.Prelude.{ℕ, zero, suc, ◌+◌, ◌-◌, ◌*◌, ◌/◌, ◌%◌, ◌^◌, ◌<◌, ◌≤◌, ◌≡◌, Bool, true, false, ◌||◌, List, [], ◌∷◌, length, get_or, take, drop, eqb, ltb}
+use Rattle.std.specs.Prelude.{ℕ, zero, suc, ◌+◌, ◌-◌, ◌*◌, ◌/◌, ◌%◌, ◌^◌, ◌<◌, ◌≤◌, ◌≡◌, Bool, true, false, ◌||◌, ◌&&◌, List, [], ◌∷◌, length, get_or, take, drop, eqb, ltb}
 use Rattle.basics.specs.Limits.{block_bytes}
 use Rattle.basics.specs.Pick.{pick}
 use Rattle.basics.specs.Checks.{refuse_block}
@@ -40,6 +40,11 @@ repeated xs i e = among (get_or xs i 0) (drop (suc i) (take e xs))
 abbrev pub MarksTo : List ℕ → List ℕ → ℕ → Type 0
 MarksTo marks xs e = (i : ℕ) → marked marks i ≡ repeated xs i e
 
+-- the bitmap that marks those of the first i among the first e, and the others among the first s
+pub record MarksBetween (marks xs : List ℕ) (i s e : ℕ) : Type 0 where
+  pub done : (k : ℕ) → k < i → marked marks k ≡ repeated xs k e
+  pub left : (k : ℕ) → i ≤ k → marked marks k ≡ repeated xs k s
+
 -- slot s of a file, the 32 bytes from byte 32 × s + 16 on, has a record where its place in its block is below the block's count
 unfoldable pub slot_filled : List ℕ → ℕ → Bool
 slot_filled bytes s = ltb (s % 16) (byte_at bytes (s / 16 * block_bytes + 2))
@@ -58,9 +63,12 @@ pub record NextRecord (bytes : List ℕ) (s r : ℕ) : Type 0 where
   pub within : r < length bytes / 32
   pub rest : numbers_from bytes s ≡ four_at bytes (32 * r + 16) ∷ numbers_from bytes (r + 1)
 
--- the key of record i, which has claim number x
+-- the key of record i, which has claim number x: 48 bits
 abbrev pub key_of : ℕ → ℕ → ℕ
 key_of x i = 65536 * x + i
+
+abbrev pub most_key : ℕ
+most_key = 281474976710656
 
 -- the first n keys are those of the first n numbers, of which the first has index i
 abbrev pub KeysTaken : List ℕ → ℕ → ℕ → List ℕ → Type 0
@@ -82,6 +90,17 @@ pub record IndexOf (xs : List ℕ) (i e key : ℕ) : Type 0 where
 pub record ChunkKeys (xs : List ℕ) (i : ℕ) (keys : List ℕ) : Type 0 where
   pub there : (p : ℕ) → p < length keys → IndexOf xs i (i + length keys) (get_or keys p 0)
   pub back : (j : ℕ) → i ≤ j → j < i + length keys → KeyAt keys (key_of (get_or xs j 0) j)
+
+-- the first of some keys that is above a key
+pub record FirstAbove (keys : List ℕ) (key place : ℕ) : Type 0 where
+  pub within : place ≤ length keys
+  pub below : (k : ℕ) → k < place → get_or keys k 0 ≤ key
+  pub above : (k : ℕ) → place ≤ k → k < length keys → key < get_or keys k 0
+
+-- one of the first n keys is that of record i, and the key behind it has its claim number
+unfoldable pub followed : List ℕ → ℕ → ℕ → Bool
+followed keys zero i = false
+followed keys (suc n) i = (eqb i (get_or keys n 0 % 65536) && eqb (get_or keys n 0 / 65536) (get_or keys (n + 1) 0 / 65536)) || followed keys n i
 
 -- one of some keys is that of a later record with the claim number of a key, and a test that says whether there is one
 pub record LaterKey (keys : List ℕ) (key : ℕ) : Type 0 where
