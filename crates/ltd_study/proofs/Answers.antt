@@ -1,6 +1,6 @@
 -- What a buffer that was filled says.
 -- Assumes nothing.
-use Prim.Native.Nat.{ℕ, ◌+◌, ◌*◌, ◌/◌}
+use Prim.Native.Nat.{ℕ}
 use mathlib.Core.Path.{◌≡◌, refl, ap}
 use mathlib.Core.Bool.{Bool, true, false}
 use native.Mathlib.Omega.{arith}
@@ -14,9 +14,10 @@ use Rattle.ltd_study.specs.Private.{Filling}
 pub both : {A : Type 0} → true ≡ false → A
 both q = absurd (let z : ◌≡◌ {A = ℕ} 0 1 = ap (λ (b : Bool). pick b 0 1) q in omega arith)
 
--- a full buffer is fed whole
+-- a buffer that is full, as the input isn't over: reading didn't fail, and it is fed whole
+pub full-whole : (f : Filled) → Filling 2048 f → f.over ≡ false → (f.count ≡ 2048) × (f.failed ≡ false)
+full-whole f g e = (g.full e, by f.failed (λ t. t ≡ false) (λ t. absurd (omega (arith, g.full e, g.short t))) (λ _. refl))
+
 pub fed-full : (f : Filled) → Filling 2048 f → f.over ≡ false → fed_count f.failed f.count ≡ 2048
 unfolding fed_count
-fed-full f g e =
-    let h = g.full e in
-    by f.failed (λ t. f.failed ≡ t → pick t (f.count / 512 * 512 + 1) f.count ≡ 2048) (λ _ q. absurd (omega (arith, g.short q))) (λ _ q. h) refl
+fed-full f g e = let w = full-whole f g e in rw w.1 w.0

@@ -1,12 +1,12 @@
 -- The rates of `rates.bin`, some bytes at a time: whether they are rates, and where they stand in the table.
 -- Assumes nothing.
-use Prim.Native.Nat.{ℕ, zero, suc, ◌+◌, ◌-◌, ◌*◌, ◌/◌, ◌%◌, ◌≤◌, ◌<◌}
+use Prim.Native.Nat.{ℕ, suc, ◌+◌, ◌-◌, ◌*◌, ◌/◌, ◌%◌, ◌≤◌, ◌<◌}
 use mathlib.Core.Path.{◌≡◌, refl, sym, ap, ◌∙◌}
-use mathlib.Core.Bool.{Bool, true, false, and-eq-true_iff}
+use mathlib.Core.Bool.{Bool, true, false, not, and-eq-true_iff, and-false}
 use mathlib.Core.List.{List, [], ◌++◌, append_assoc}
 use native.Mathlib.Omega.{arith}
 use lib.ListN.{length, get_or, set, take, drop, length-append, get_or-append}
-use lib.Dec.{leb, ltb}
+use lib.Dec.{leb, ltb, eqb}
 use lib.Seq.{sets, sets-eq, length-take-le, take_at, get_or-take, get_or-append-add, take-suc-set, drop-set-lt}
 use borrow.Rule.Slice.PartMut.{mid_of, put_mid, mid_len, drop_put, Post-is}
 use borrow.Author.Tests.{eq-eqb, ne_eqb, le-leb, lt-leb}
@@ -15,7 +15,13 @@ use Rattle.basics.proofs.Tables.{table-length, table_at, list-table}
 use Rattle.basics.proofs.Tests.{tests, by}
 use Rattle.rates.specs.Prepared.{prepare_after, prepared_of}
 use Rattle.claim_file.specs.Bytes.{byte_at, two_at, four_at}
+use Rattle.std.specs.Prelude.{Option, Some, None}
+use Rattle.ltd_study.specs.declared.input.Filled.{Filled}
+use Rattle.ltd_study.specs.Sources.{Stream, Hands, IsOver, Gives, left_of}
 use Rattle.ltd_study.specs.Input.{block_rates, rates_fit, file_rates, RatesRead}
+use Rattle.ltd_study.specs.Private.{Filling}
+use Rattle.ltd_study.proofs.Answers.{full-whole}
+use Rattle.ltd_study.proofs.Sources.{hands-none, hands-on, given}
 
 -- the number of four bytes, from its bytes
 pub four-from : (bytes : List ℕ) (i a b c d : ℕ) → a ≡ get_or bytes i 0 → b ≡ get_or bytes (i + 1) 0 → c ≡ get_or bytes (i + 2) 0 → d ≡ get_or bytes (i + 3) 0
@@ -139,54 +145,103 @@ module _ (whole buffer : List ℕ) (n count : ℕ) (l : length whole ≡ 4 * n) 
         ∙ ap (λ (x : List ℕ). x ++ back) e ∙ joined
 
 -- a file that isn't there has no rates
-pub no_rates : (numbers : List ℕ) → RatesRead 0 numbers
-no_rates numbers = let e = rates-none true [] 0 refl (sym (fit-failed true 0 refl)) in record { failed = true; bytes = []; stored = sym e; counted = sym (ap length e) }
+pub no_rates : {F : Type 0} (left : F → Option Stream) (numbers : List ℕ) → RatesRead (left_of left None) 0 numbers
+unfolding file_rates rates_fit block_rates table
+no_rates left numbers = record { file = record { bytes = []; fails = false }; given = (refl, refl); stored = refl; counted = refl }
 
--- rates read so far: there are bytes whose rates they all are
-pub record ReadSo (n : ℕ) (numbers : List ℕ) : Type 0 where
+-- rates read so far: there are bytes whose rates they all are, and these were handed out
+pub record ReadSo (from now : Option Stream) (n : ℕ) (numbers : List ℕ) : Type 0 where
   pub whole : List ℕ
+  pub handed : Hands from whole now
   pub counted : length whole ≡ 4 * n
   pub stored : take n numbers ≡ block_rates whole n
   pub few : n ≤ 15328
 
-pub none_read : (numbers : List ℕ) → ReadSo 0 numbers
+pub none_read : (from : Option Stream) (numbers : List ℕ) → ReadSo from from 0 numbers
 unfolding block_rates table
-none_read numbers = record { whole = []; counted = refl; stored = refl; few = omega arith }
+none_read from numbers = record { whole = []; handed = hands-none from; counted = refl; stored = refl; few = omega arith }
 
 pub fit-so : (failed : Bool) (n : ℕ) → rates_fit failed n ≡ true → (n % 4 ≡ 0) × (n ≤ 61312)
 unfolding rates_fit
 fit-so failed n h = let t = simp and-eq-true_iff at h in (omega tests, omega tests)
 
+-- what begins with whole rates that are too many is no rates
+too-long : (failed fails : Bool) (n k : ℕ) → failed ≡ false → n % 4 ≡ 0 → rates_fit failed n ≡ false → n ≤ k → rates_fit fails k ≡ false
+unfolding rates_fit
+too-long failed fails n k f m e h =
+    let q : leb n 61312 ≡ false
+    = by (leb n 61312) (λ t. t ≡ false)
+    (λ t. sym (rw (f, eq-eqb (n % 4) 0 m) t) ∙ e)
+    (λ _. refl) in
+    rw (lt-leb k 61312 (omega (tests, q)), and-false (eqb (k % 4) 0)) (and-false (not fails))
+
+-- no rates of what a source had left
+record NoRates (from : Option Stream) : Type 0 where
+  file : Stream
+  given : Gives from file
+  none : file_rates file.fails file.bytes ≡ []
+
+none-given : (from now : Option Stream) (bytes : List ℕ) (f : Filled) → Hands from bytes now → (f.over ≡ true → IsOver now f.failed)
+    → (f.over ≡ false → (length bytes % 4 ≡ 0) × (f.failed ≡ false)) → rates_fit f.failed (length bytes) ≡ false → NoRates from
+none-given None now bytes f h o w e = record { file = record { bytes = bytes; fails = f.failed }; given = tt; none = rates-none f.failed bytes (length bytes) refl e }
+none-given (Some l) None bytes f h o w e = absurd h
+none-given (Some l) (Some m) bytes f h o w e =
+    record {
+      file = l;
+      given = (refl, refl);
+      none =
+          by f.over (λ _. file_rates l.fails l.bytes ≡ [])
+          (λ t.
+          let g = given (Some l) (Some m) bytes f.failed h (o t) in
+          rates-none l.fails l.bytes (length bytes) (ap length g.0) (ap (λ (b : Bool). rates_fit b (length bytes)) g.1 ∙ e))
+          (λ t.
+          let long : length bytes ≤ length l.bytes = omega (arith, ap length h.0, length-append bytes m.bytes) in
+          rates-none l.fails l.bytes (length l.bytes) refl (too-long f.failed l.fails (length bytes) (length l.bytes) (w t).1 (w t).0 e long));
+    }
+
 -- with the bytes that came behind them
-module _ (numbers buffer : List ℕ) (n count : ℕ) (failed : Bool) (r : ReadSo n numbers) (within : count ≤ length buffer) where
+module _ (from before now : Option Stream) (numbers buffer : List ℕ) (n : ℕ) (f : Filled) (r : ReadSo from before n numbers) (within : f.count ≤ length buffer)
+    (h : Hands before (take f.count buffer) now) where
   abbrev file : List ℕ
-  file = both r.whole buffer n count r.counted within
+  file = both r.whole buffer n f.count r.counted within
 
-  file-length : length file ≡ 4 * n + count
-  file-length = both-length r.whole buffer n count r.counted within
+  file-length : length file ≡ 4 * n + f.count
+  file-length = both-length r.whole buffer n f.count r.counted within
 
-  pub nothing_read : rates_fit failed (4 * n + count) ≡ false → RatesRead 0 numbers
-  nothing_read e =
-      let q = rates-none failed file (4 * n + count) file-length e in
-      record { failed = failed; bytes = file; stored = sym q; counted = sym (ap length q) }
+  file-handed : Hands from file now
+  file-handed = hands-on from before now r.whole (take f.count buffer) r.handed h
 
-  module _ (m : ℕ) (w : m ≡ count / 4) (e : rates_fit failed (4 * n + count) ≡ true) (fits : n + m ≤ length numbers) (after : List ℕ)
+  pub nothing_read : Filling 2048 f → (f.over ≡ true → IsOver now f.failed) → rates_fit f.failed (4 * n + f.count) ≡ false → RatesRead from 0 numbers
+  nothing_read g o e =
+      let q =
+      none-given from now file f file-handed o
+      (λ t. let w = full-whole f g t in (omega (arith, file-length, w.0), w.1))
+      (ap (rates_fit f.failed) file-length ∙ e)
+      in
+      record { file = q.file; given = q.given; stored = sym q.none; counted = sym (ap length q.none) }
+
+  module _ (m : ℕ) (w : m ≡ f.count / 4) (e : rates_fit f.failed (4 * n + f.count) ≡ true) (fits : n + m ≤ length numbers) (after : List ℕ)
       (s : after ≡ sets numbers n (block_rates buffer m)) where
     file-rates : take (n + m) after ≡ block_rates file (n + m)
     file-rates =
         ap (take (n + m)) s
-        ∙ rates-more r.whole buffer n count r.counted within m (omega (arith, (fit-so failed (4 * n + count) e).0)) numbers fits r.stored
+        ∙ rates-more r.whole buffer n f.count r.counted within m (omega (arith, (fit-so f.failed (4 * n + f.count) e).0)) numbers fits r.stored
 
-    pub all_read : RatesRead (n + m) after
-    all_read =
-        let c : (4 * n + count) / 4 ≡ n + m = omega (arith, (fit-so failed (4 * n + count) e).0) in
-        let q = rates-some failed file (4 * n + count) file-length e ∙ ap (block_rates file) c in
-        record { failed = failed; bytes = file; stored = file-rates ∙ sym q; counted = sym (ap length q ∙ block_rates-length file (n + m)) }
+    pub all_read : IsOver now f.failed → RatesRead from (n + m) after
+    all_read o =
+        let c : (4 * n + f.count) / 4 ≡ n + m = omega (arith, (fit-so f.failed (4 * n + f.count) e).0) in
+        let q = rates-some f.failed file (4 * n + f.count) file-length e ∙ ap (block_rates file) c in
+        record {
+          file = record { bytes = file; fails = f.failed };
+          given = given from now file f.failed file-handed o;
+          stored = file-rates ∙ sym q;
+          counted = sym (ap length q ∙ block_rates-length file (n + m));
+        }
 
-    pub read-on : ReadSo (n + m) after
+    pub read-on : ReadSo from now (n + m) after
     read-on =
-        let f = fit-so failed (4 * n + count) e in
-        record { whole = file; counted = file-length ∙ omega (arith, f.0); stored = file-rates; few = omega (arith, f.0, f.1) }
+        let t = fit-so f.failed (4 * n + f.count) e in
+        record { whole = file; handed = file-handed; counted = file-length ∙ omega (arith, t.0); stored = file-rates; few = omega (arith, t.0, t.1) }
 
 -- the rates with their mark, prepared where they stand
 module _ (numbers ys : List ℕ) (n : ℕ) (h : n < length numbers) (q : length ys ≡ length (mid_of 0 (n + 1 - 0) (set numbers n 0)))

@@ -1,5 +1,6 @@
 -- Document 01, Figures to hold it to: rates from `rates.bin`, the claim file on standard input; and what the program prints of them.
-use Rattle.std.specs.Prelude.{ℕ, ◌+◌, ◌*◌, ◌/◌, ◌%◌, ◌≡◌, Bool, true, false, not, ◌&&◌, List, [], length, take, leb, eqb, Result, Ok, Err}
+use Rattle.std.specs.Prelude.{ℕ, ◌+◌, ◌*◌, ◌/◌, ◌%◌, ◌≡◌, Bool, true, false, not, ◌&&◌, List, [], ◌∷◌, ◌++◌, length, take, leb, eqb, Option, Result, Ok, Err}
+use Rattle.std.specs.Io.KnownBytes.{Appends}
 use Rattle.basics.specs.Limits.{block_bytes}
 use Rattle.basics.specs.Pick.{pick}
 use Rattle.basics.specs.Tables.{table}
@@ -10,6 +11,7 @@ use Rattle.claim_file.specs.Run.{file_run_with, file_run}
 use Rattle.claim_file.specs.PreparedRuns.{adding_with}
 use Rattle.report.specs.Text.{run_text}
 use Rattle.ltd_study.specs.declared.input.Filled.{Filled}
+use Rattle.ltd_study.specs.Sources.{Stream, Gives}
 
 -- the first n rates of some bytes: four bytes each, low byte first
 unfoldable pub block_rates : List ℕ → ℕ → List ℕ
@@ -32,28 +34,41 @@ file_rates failed bytes = pick (rates_fit failed (length bytes)) (block_rates by
 unfoldable pub fed_count : Bool → ℕ → ℕ
 fed_count failed count = pick failed (count / block_bytes * block_bytes + 1) count
 
--- there are bytes, and whether reading them failed, whose rates are the first of a table
-pub record RatesRead (rates : ℕ) (table : List ℕ) : Type 0 where
-  pub failed : Bool
-  pub bytes : List ℕ
-  pub stored : take rates table ≡ file_rates failed bytes
-  pub counted : rates ≡ length (file_rates failed bytes)
+-- the claim file that is run: the bytes that came, and where a read failed, the whole blocks of these and a part block, so that it doesn't look like the end
+unfoldable pub claims_of : Stream → List ℕ
+claims_of s = pick s.fails (take (length s.bytes / block_bytes * block_bytes) s.bytes ++ (0 ∷ [])) s.bytes
 
--- there are bytes whose run under a prepared table it is
-pub record InputRun (table : List ℕ) (run : FileRun) : Type 0 where
-  pub bytes : List ℕ
-  pub same : run ≡ file_run_with (adding_with Prepared table) bytes
+-- there is a `rates.bin` whose rates are the first of a table: the one that a source had left, where that is known
+pub record RatesRead (left : Option Stream) (rates : ℕ) (table : List ℕ) : Type 0 where
+  pub file : Stream
+  pub given : Gives left file
+  pub stored : take rates table ≡ file_rates file.fails file.bytes
+  pub counted : rates ≡ length (file_rates file.fails file.bytes)
 
--- there are a `rates.bin` and a claim file whose run by document 01 it is
-pub record StudyRun (run : FileRun) : Type 0 where
-  pub failed : Bool
-  pub rates : List ℕ
-  pub claims : List ℕ
-  pub same : run ≡ file_run (file_rates failed rates) claims
+-- there is a claim file whose run under a prepared table it is: the one that a source had left, where that is known
+pub record InputRun (left : Option Stream) (table : List ℕ) (run : FileRun) : Type 0 where
+  pub claims : Stream
+  pub given : Gives left claims
+  pub same : run ≡ file_run_with (adding_with Prepared table) (claims_of claims)
 
--- there are a `rates.bin` and a claim file of which these bytes are what the program prints
-pub record StudyText (text : List ℕ) : Type 0 where
-  pub failed : Bool
-  pub rates : List ℕ
-  pub claims : List ℕ
-  pub same : text ≡ run_text (file_run (file_rates failed rates) claims)
+-- there are a `rates.bin` and a claim file whose run by document 01 it is: those that the two sources had left, where that is known
+pub record StudyRun (file input : Option Stream) (run : FileRun) : Type 0 where
+  pub rates : Stream
+  pub claims : Stream
+  pub rates_given : Gives file rates
+  pub claims_given : Gives input claims
+  pub same : run ≡ file_run (file_rates rates.fails rates.bytes) (claims_of claims)
+
+-- the same of the text that the program prints
+pub record StudyText (file input : Option Stream) (text : List ℕ) : Type 0 where
+  pub rates : Stream
+  pub claims : Stream
+  pub rates_given : Gives file rates
+  pub claims_given : Gives input claims
+  pub same : text ≡ run_text (file_run (file_rates rates.fails rates.bytes) (claims_of claims))
+
+-- a writer was given that text and no more, where what it holds is known
+pub record StudyPrinted (file input : Option Stream) (old new : Option (List ℕ)) : Type 0 where
+  pub text : List ℕ
+  pub studied : StudyText file input text
+  pub written : Appends old new text

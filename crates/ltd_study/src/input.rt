@@ -1,5 +1,7 @@
-// Reading: `rates.bin` into the rate table, and standard input into the file run, each from a reader and both through one lent buffer of 2,048 bytes.
-ghost use Rattle.std.specs.Prelude.{◌≡◌, false, ◌+◌, ◌*◌, ◌≤◌, ◌<◌, length, take, drop};
+// Reading: `rates.bin` into the rate table, and standard input into the file run, each from a source and both through one lent buffer of 2,048 bytes.
+ghost use Rattle.std.specs.Prelude.{◌≡◌, true, false, ◌+◌, ◌*◌, ◌≤◌, ◌<◌, length, take, drop, None};
+ghost use Rattle.core.specs.declared.option.Option.{Option};
+ghost use Rattle.std.specs.Io.KnownBytes.{Consumes, IsAtEnd};
 ghost use Rattle.std.proofs.lemmas.List.Edits.{sets};
 ghost use Rattle.rates.specs.declared.Kind.TheVariants.{Prepared};
 ghost use Rattle.rates.specs.Prepared.{prepared_of};
@@ -8,6 +10,7 @@ ghost use Rattle.claim_file.specs.Bytes.{four_at};
 ghost use Rattle.claim_file.specs.Run.{fed};
 ghost use Rattle.claim_file.specs.PreparedRuns.{adding_with};
 ghost use Rattle.claim_file.specs.LentRuns.{run_with};
+ghost use Rattle.ltd_study.specs.Sources.{Stream, Hands, IsOver, Handed, left_of};
 ghost use Rattle.ltd_study.specs.Input.{block_rates, read_answer, fed_count, rates_fit, RatesRead, InputRun, StudyRun};
 ghost use Rattle.ltd_study.specs.Private.{Filling};
 
@@ -27,7 +30,7 @@ type Table = [u32; 15329];
 // How many bytes came, whether the input is over behind them, and whether a read failed there. Kept: no enum, since a failed read is over too, and each of
 // the three is asked alone.
 #[derive(Clone, Copy)]
-struct Filled {
+pub(crate) struct Filled {
     count: usize,
     over: bool,
     failed: bool,
@@ -51,22 +54,37 @@ fn taken(got: io::Result<usize>) -> Filled
     }
 }
 
-// One read.
-fn read_some(reader: &mut impl Read, bytes: &mut [u8]) -> Filled
-    ensures count_in_bounds { result.count ≤ length bytes.old }
-    ensures count_nonzero { result.over ≡ false → 0 < result.count }
-{
-    taken(reader.read(bytes))
+// Where bytes come from.
+pub(crate) trait Source {
+    // What reads will hand out from here on, and whether one fails behind it, where that is known.
+    ghost left: { Self → Option Stream } = { λ _. None };
+
+    // One read.
+    fn read_some(&mut self, bytes: &mut [u8]) -> Filled
+        ensures { Handed (left self.old) (left self.new) bytes.new result };
+}
+
+// A file and standard input: nothing is known of what the system hands out.
+impl<R: Read> Source for R {
+    fn read_some(&mut self, bytes: &mut [u8]) -> Filled
+        ensures handed { Handed None None bytes.new result }
+        ensures consumed { Consumes (R.remaining self.old) (R.remaining self.new) (take result.count bytes.new) }
+        ensures end { result.over ≡ true → result.failed ≡ false → 0 < length bytes.new → IsAtEnd (R.remaining self.new) }
+    {
+        taken(self.read(bytes))
+    }
 }
 
 // Reads until the buffer is full, the input ends or a read fails: a pipe hands out fewer bytes than asked.
-fn fill(reader: &mut impl Read, buffer: &mut Buffer) -> Filled
-    ensures { Filling 2048 result }
+fn fill<S: Source>(source: &mut S, buffer: &mut Buffer) -> Filled
+    ensures filling { Filling 2048 result }
+    ensures handed { Hands (S.left source.old) (take result.count buffer.new) (S.left source.new) }
+    ensures over { result.over ≡ true → IsOver (S.left source.new) result.failed }
 {
     // Kept: std's `read_exact` doesn't say how many bytes came before the end.
     let mut done = 0;
     while done < buffer.len() {
-        let some = read_some(reader, &mut buffer[done..]);
+        let some = source.read_some(&mut buffer[done..]);
         if some.over {
             return Filled {
                 count: done,
@@ -113,12 +131,12 @@ fn are_rates(filled: Filled, rates: usize) -> bool
 }
 
 // Reads `rates.bin` into the table, and answers how many rates it has.
-fn read_rates(file: &mut impl Read, table: &mut Table, buffer: &mut Buffer) -> usize
-    ensures rates_read { RatesRead result table.new }
+fn read_rates<F: Source>(file: &mut F, table: &mut Table, buffer: &mut Buffer) -> usize
+    ensures rates_read { RatesRead (F.left file.old) result table.new }
     ensures upper_bound { result ≤ 15328 }
 {
     let mut rates = 0;
-    // Kept: std has no iterator over what a reader gives that fills a lent buffer, and the last part is put before the loop ends.
+    // Kept: std has no iterator over what a source gives that fills a lent buffer, and the last part is put before the loop ends.
     loop {
         let filled = fill(file, buffer);
         if !are_rates(filled, rates) {
@@ -134,8 +152,8 @@ fn read_rates(file: &mut impl Read, table: &mut Table, buffer: &mut Buffer) -> u
 }
 
 // The same of a file that may be missing, which is closed behind it.
-fn rates_of<F: Read + Drop>(file: Option<F>, table: &mut Table, buffer: &mut Buffer) -> usize
-    ensures rates_read { RatesRead result table.new }
+fn rates_of<F: Source + Drop>(file: Option<F>, table: &mut Table, buffer: &mut Buffer) -> usize
+    ensures rates_read { RatesRead (left_of F.left file) result table.new }
     ensures upper_bound { result ≤ 15328 }
 {
     match file {
@@ -171,26 +189,25 @@ fn feed_bytes(
     feed_lent(Kind::Prepared, table, &buffer[..count], run, sums)
 }
 
-// The file run of standard input, fed four blocks at a time.
-// Kept: a proved loop has to end, and nothing says that the input does, so it has a number of turns that no run uses up.
-fn run_input(
-    input: &mut impl Read,
+// The file run of the input, fed four blocks at a time.
+fn run_input<S: Source>(
+    input: &mut S,
     table: &[u32],
     sums: &mut [i64; 80],
     buffer: &mut Buffer,
 ) -> LentRun
     requires { sums.old ≡ none }
-    ensures { InputRun table.now (run_with result sums.new) }
+    ensures { InputRun (S.left input.old) table.now (run_with result sums.new) }
 {
     let mut run = LentRun::start();
-    for _ in 0..u64::MAX {
+    // Ends at an input that doesn't: each turn raises the number of the block due, which 32 bits hold.
+    loop {
         let filled = fill(input, buffer);
         run = feed_bytes(run, table, buffer, fed_count(filled), sums);
         if run.stop.is_some() || filled.over {
-            break;
+            return run.end();
         }
     }
-    run.end()
 }
 
 // Prepares the first rates of the table where they stand, with the mark behind them.
@@ -206,14 +223,14 @@ fn prepare_rates(table: &mut Table, rates: usize)
 
 // The file run of the input under the rates of a file, if it is there. The file is closed first: with standard input closed its descriptor
 // has that number, and the rest of `rates.bin` is no claim file.
-pub(crate) fn run_under<F: Read + Drop>(
+pub(crate) fn run_under<F: Source + Drop, S: Source>(
     file: Option<F>,
-    input: &mut impl Read,
+    input: &mut S,
     sums: &mut [i64; 80],
     buffer: &mut Buffer,
 ) -> LentRun
     requires { sums.old ≡ none }
-    ensures { StudyRun (run_with result sums.new) }
+    ensures { StudyRun (left_of F.left file) (S.left input.old) (run_with result sums.new) }
 {
     let mut table = [0; 15329];
     let rates = rates_of(file, &mut table, buffer);

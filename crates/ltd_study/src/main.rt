@@ -9,7 +9,6 @@ mod input;
 mod output;
 
 use std::fs::{File, Files};
-use std::io::Read;
 
 // The file of the rates, if it is there. Out of line, so that the bytes of its path are given back before the table is made.
 #[inline(never)]
@@ -17,15 +16,8 @@ fn rates_file<R: Files>(rt: &R) -> Option<R::File> {
     File::open(rt, "rates.bin").ok()
 }
 
-// Prints the study under the rates of a file, if it is there, up to a write that fails. Out of line, as what it has on the stack leaves no room for the path.
-#[inline(never)]
-fn print_study<F: Read + Drop>(rt: &HostRuntime, rates: Option<F>) {
-    let mut buffer = [0u8; 2048];
-    let count = output::study_text(rates, &mut rt.stdin(), &mut buffer);
-    let _ = rt.write_all(&buffer[..count]);
-}
-
+// A write that fails ends the program, as there is nowhere to say so.
 fn main(rt: HostRuntime) {
     let rates = rates_file(&rt);
-    print_study(&rt, rates);
+    let _ = output::print_study(rates, &mut rt.stdin(), &mut rt.stdout());
 }
