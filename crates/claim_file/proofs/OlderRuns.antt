@@ -3,16 +3,16 @@
 -- Assumes nothing.
 use Prim.Native.Nat.{ℕ, zero, suc, ◌+◌, ◌*◌, ◌/◌, ◌%◌, ◌≤◌, ◌<◌}
 use mathlib.Core.Path.{◌≡◌, refl, sym, ap, ◌∙◌}
-use mathlib.Core.Bool.{true, false, ◌&&◌, and-eq-true_iff}
+use mathlib.Core.Bool.{Bool, true, false, not, ◌&&◌, and-eq-true_iff}
 use mathlib.Core.List.{List}
 use mathlib.Core.Logic.{⊎_elim}
 use native.Mathlib.Omega.{arith}
 use native.Mathlib.Nat.{le_of_suc-le-suc, not-suc-le-zero, eq-or-lt_of_le}
-use lib.ListN.{length, take, drop}
+use lib.ListN.{length, get_or, set, take, drop}
 use lib.Dec.{eqb}
 use borrow.Author.Tests.{eqb-true, eqb-false, le-leb}
 use Rattle.basics.specs.Pick.{pick}
-use Rattle.basics.specs.Checks.{◌then◌}
+use Rattle.basics.specs.Checks.{◌then◌, refuse_block}
 use Rattle.basics.proofs.Tests.{tests, by, and_left, and_right}
 use Rattle.claim_months.specs.declared.Claim.{Claim}
 use Rattle.claim_months.specs.Claim.{benefit_sound, weight, claim_check}
@@ -25,7 +25,9 @@ use Rattle.claim_file.specs.Record.{claim_from, record_padded}
 use Rattle.claim_file.specs.Block.{claim_count, block_claim, claims_padded, window_block, claim_block, block_sound}
 use Rattle.claim_file.specs.Run.{Adding, started, begun, going_on, stops, claims_from, block_fed, blocks_fed, part_fed, fed, ended, file_run_with}
 use Rattle.claim_file.specs.OlderFiles.{Layout, with_cell, layout_before_four, layout_before_seven, older_claim, older_padded, older_claim_block, older_sound, older_claims_from, older_begun, older_block_fed, older_blocks_fed, older_run, older_blocks, older_rate_check, older_claim_check, RunsAsBefore, OlderFiles}
+use Rattle.claim_file.specs.RoundTrip.{AreBytes}
 use Rattle.claim_file.proofs.RecordParts.{same-claim}
+use Rattle.claim_file.proofs.BlockTrips.{changed-refused}
 use Rattle.claim_file.proofs.BlockTests.{claims-are, window-block}
 
 -- a record that was padded is padded and reads to the same claim
@@ -82,6 +84,14 @@ module _ (l : Layout) (o : ReadsAsBefore l) where
         by (eqb due 0) (λ t. pick t (window_block bytes) (older_claim_block l due bytes) ≡ true → pick t (window_block bytes) (claim_block due bytes) ≡ true)
         (λ e h. h) (λ e. claims-sound)
 
+  -- with one byte changed it is sound in neither layout
+  changed-unsound : (due : ℕ) (bytes : List ℕ) (i v : ℕ) → AreBytes bytes → older_sound l due bytes ≡ true → i < 512 → v < 256 → (v ≡ get_or bytes i 0 → ⊥)
+      → (older_sound l due (set bytes i v) ≡ false) × (block_sound due (set bytes i v) ≡ false)
+  unfolding byte_at
+  changed-unsound due bytes i v small h place new other =
+      let now = changed-refused due bytes i v (still-sound due bytes h) place (small i) new other in
+      (by (older_sound l due (set bytes i v)) (λ t. t ≡ false) (λ e. sym (still-sound due (set bytes i v) e) ∙ now) (λ e. refl), now)
+
   -- one block
   module _ (r : FileRun) (add : Adding) (bytes : List ℕ) where
     same-claims : (n k : ℕ) (s : Study) → ((j : ℕ) → j < k + n → Padded bytes j)
@@ -110,6 +120,11 @@ module _ (l : Layout) (o : ReadsAsBefore l) where
         (λ (b : Answer). pick (eqb b.refused 0) (claims_from r b.study add bytes 0 (claim_count bytes)) (stops r b.study b.refused 0))
         (same-begun h)
 
+    -- a damaged one
+    damaged_block : older_sound l r.due bytes ≡ false → block_sound r.due bytes ≡ false → older_block_fed l r add bytes ≡ block_fed r add bytes
+    unfolding older_block_fed older_begun block_fed begun
+    damaged_block e f = rw (e, f) refl
+
 -- a run that goes on after a block has the next one due
 module _ (r : FileRun) (add : Adding) (bytes : List ℕ) where
   abbrev Next : FileRun → Type 0
@@ -134,28 +149,46 @@ module _ (r : FileRun) (add : Adding) (bytes : List ℕ) where
       by (eqb a.refused 0) (λ t. Next (pick t (claims_from r a.study add bytes 0 (claim_count bytes)) (stops r a.study a.refused 0)))
       (λ e. claims-next (claim_count bytes) 0 a.study) (stopped-next a 0)
 
+  damaged-stops : block_sound r.due bytes ≡ false → (block_fed r add bytes).refused ≡ refuse_block
+  unfolding block_fed begun stops
+  damaged-stops f = rw f refl
+
+damaged : (t : Bool) → not t ≡ true → t ≡ false
+damaged true h = sym h
+damaged false h = refl
+
 -- all blocks
 module _ (l : Layout) (o : ReadsAsBefore l) (add : Adding) where
+  -- the first block of such a file runs as it did, and the rest is due as such a file where the run goes on
+  same_step : (n : ℕ) (r : FileRun) (bytes : List ℕ) → older_blocks l r.due bytes (suc n) ≡ true
+      → (older_block_fed l r add (take 512 bytes) ≡ block_fed r add (take 512 bytes))
+      × ((block_fed r add (take 512 bytes)).refused ≡ 0 → older_blocks l (block_fed r add (take 512 bytes)).due (drop 512 bytes) n ≡ true)
+  unfolding older_blocks
+  same_step n r bytes h =
+      let first = take 512 bytes in
+      let rest = drop 512 bytes in
+      let b = block_fed r add first in
+      by (older_sound l r.due first) (λ _. (older_block_fed l r add first ≡ b) × (b.refused ≡ 0 → older_blocks l b.due rest n ≡ true))
+      (λ e. (
+        same_block l o r add first e,
+        λ u. let d : b.due ≡ suc r.due = omega (arith, block-next r add first u) in ap (λ (m : ℕ). older_blocks l m rest n) d ∙ rw e at h,
+      ))
+      (λ e.
+      let f : block_sound r.due first ≡ false = damaged (block_sound r.due first) (rw e at h) in
+      (damaged_block l o r add first e f, λ u. absurd (omega (arith, damaged-stops r add first f))))
+
   same_blocks : (n : ℕ) (r : FileRun) (bytes : List ℕ) → (r.refused ≡ 0 → older_blocks l r.due bytes n ≡ true)
       → older_blocks_fed l r add bytes n ≡ blocks_fed r add bytes n
-  unfolding older_blocks_fed blocks_fed older_blocks
+  unfolding older_blocks_fed blocks_fed
   same_blocks zero r bytes h = refl
   same_blocks (suc n) r bytes h =
       by (eqb r.refused 0)
       (λ t. pick t (older_blocks_fed l (older_block_fed l r add (take 512 bytes)) add (drop 512 bytes) n) r
       ≡ pick t (blocks_fed (block_fed r add (take 512 bytes)) add (drop 512 bytes) n) r)
       (λ e.
-      let first = take 512 bytes in
-      let rest = drop 512 bytes in
-      let all = h (eqb-true r.refused 0 e) in
-      let b = block_fed r add first in
-      let next : b.refused ≡ 0 → older_blocks l b.due rest n ≡ true =
-      λ u.
-      let d : b.due ≡ suc r.due = omega (arith, block-next r add first u) in
-      ap (λ (m : ℕ). older_blocks l m rest n) d ∙ and_right (older_sound l r.due first) (older_blocks l (suc r.due) rest n) all in
-      ap (λ (x : FileRun). older_blocks_fed l x add rest n)
-      (same_block l o r add first (and_left (older_sound l r.due first) (older_blocks l (suc r.due) rest n) all))
-      ∙ same_blocks n b rest next)
+      let step = same_step n r bytes (h (eqb-true r.refused 0 e)) in
+      ap (λ (x : FileRun). older_blocks_fed l x add (drop 512 bytes) n) step.0
+      ∙ same_blocks n (block_fed r add (take 512 bytes)) (drop 512 bytes) step.1)
       (λ e. refl)
 
   same-run : (bytes : List ℕ) → older_blocks l 0 bytes (length bytes / 512) ≡ true → older_run l add bytes ≡ file_run_with add bytes
@@ -168,6 +201,7 @@ runs-as-before l o =
     record {
       sound = still-sound l o;
       claims = λ due bytes p h k m. same_read l o bytes k (all-padded l o due bytes h k m);
+      damaged = λ due bytes i v small h place new other. changed-unsound l o due bytes i v small h (omega arith) new other;
       runs = same-run l o;
     }
 

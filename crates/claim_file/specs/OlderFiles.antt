@@ -1,7 +1,7 @@
 -- Document 02, requests Nos. 4 and 7: old files read as they did. Before No. 4 a record's fields ended with a cell of one byte, at 22, and the nine
 -- bytes past them were zero; before No. 7 they ended with the cell of two bytes, and the eight past them were zero. Here are those layouts and
 -- their run, and the statement that nothing changes for such files.
-use Rattle.std.specs.Prelude.{ℕ, zero, suc, ◌+◌, ◌-◌, ◌*◌, ◌/◌, ◌%◌, ◌<◌, ◌≡◌, Bool, true, ◌&&◌, List, length, take, drop, leb, ltb, eqb}
+use Rattle.std.specs.Prelude.{ℕ, zero, suc, ◌+◌, ◌-◌, ◌*◌, ◌/◌, ◌%◌, ◌<◌, ◌≡◌, Bool, true, false, ◌&&◌, not, List, length, get_or, set, take, drop, leb, ltb, eqb}
 use Rattle.basics.specs.Limits.{block_bytes}
 use Rattle.basics.specs.Pick.{pick}
 use Rattle.basics.specs.Checks.{check, ◌then◌, refuse_rate_table, refuse_cell, refuse_rate, refuse_block, refuse_date, refuse_status, refuse_sequence, refuse_short_elimination}
@@ -15,6 +15,7 @@ use Rattle.claim_file.specs.Runs.{FileRun}
 use Rattle.claim_file.specs.Bytes.{byte_at, two_at, date_from, zero_from}
 use Rattle.claim_file.specs.Record.{claim_with}
 use Rattle.claim_file.specs.Block.{claim_count, block_claim, framed, window_block, block_sound}
+use Rattle.claim_file.specs.RoundTrip.{AreBytes}
 use Rattle.claim_file.specs.Run.{started, going_on, stops, Adding, part_fed, ended, file_run_with}
 
 -- a layout of that time: how the claim whose record starts at a byte is read, and whether the bytes past its fields are zero. No claim had a benefit
@@ -74,10 +75,12 @@ older_blocks_fed l r add bytes (suc n) =
 unfoldable pub older_run : Layout → Adding → List ℕ → FileRun
 older_run l add bytes = ended (part_fed (older_blocks_fed l started add bytes (length bytes / block_bytes)) (length bytes % block_bytes))
 
--- the n blocks of a file, from the number due on, were sound then
+-- the n blocks of a file, from the number due on, were sound then, up to the first that is damaged: sound neither then nor now. Nothing is asked of
+-- the blocks behind it
 unfoldable pub older_blocks : Layout → ℕ → List ℕ → ℕ → Bool
 older_blocks l due bytes zero = true
-older_blocks l due bytes (suc n) = older_sound l due (take block_bytes bytes) && older_blocks l (suc due) (drop block_bytes bytes) n
+older_blocks l due bytes (suc n) =
+    pick (older_sound l due (take block_bytes bytes)) (older_blocks l (suc due) (drop block_bytes bytes) n) (not (block_sound due (take block_bytes bytes)))
 
 -- the checks 6 to 8 then: a table had up to 64 cells
 unfoldable pub older_rate_check : List ℕ → ℕ → ℕ
@@ -94,12 +97,15 @@ older_claim_check c =
     then check (sequence_sound c) refuse_sequence
     then check (ep_sound c) refuse_short_elimination
 
--- Of a layout: a block that was sound is sound and reads to the same claims, and a file of such blocks runs as it did, whatever the way to add, a
--- part block at its end included
+-- Of a layout: a block that was sound is sound and reads to the same claims, and with one byte changed it is sound neither then nor now. A file of
+-- such blocks runs as it did, whatever the way to add, with a damaged block anywhere or a part block at its end: refused under the same number at the
+-- same block and place, with the same study so far
 pub record RunsAsBefore (l : Layout) : Type 0 where
   pub sound : (due : ℕ) (bytes : List ℕ) → older_sound l due bytes ≡ true → block_sound due bytes ≡ true
   pub claims : (due : ℕ) (bytes : List ℕ) → 0 < due → older_sound l due bytes ≡ true → (k : ℕ) → k < claim_count bytes
       → block_claim bytes k ≡ older_claim l bytes k
+  pub damaged : (due : ℕ) (bytes : List ℕ) (i v : ℕ) → AreBytes bytes → older_sound l due bytes ≡ true → i < block_bytes → v < 256 → (v ≡ get_or bytes i 0 → ⊥)
+      → (older_sound l due (set bytes i v) ≡ false) × (block_sound due (set bytes i v) ≡ false)
   pub runs : (add : Adding) (bytes : List ℕ) → older_blocks l 0 bytes (length bytes / block_bytes) ≡ true → older_run l add bytes ≡ file_run_with add bytes
 
 -- So it is for both layouts; a table of up to 64 cells has the same checks, and a claim without a benefit has, and counts as it did: its weight is 1.
