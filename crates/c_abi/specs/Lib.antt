@@ -7,5 +7,6 @@ pub mod CallMoves
 pub mod RecordCalls
 pub mod CompanyCalls
 pub mod LoadCalls
+pub mod BlockCalls
 pub mod CorrectedCalls
 pub mod Version

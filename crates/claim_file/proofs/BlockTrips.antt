@@ -44,7 +44,7 @@ halves-back n h =
     let r : get_or (two (n % 65536) ++ two (n / 65536)) 3 0 ≡ n / 16777216 % 256 = ap (λ (r : List ℕ). get_or r 3 0) (four_bytes n) in
     omega arith
 
-claim-back : (c : Claim) (rest : List ℕ) → ClaimFits c → claim_from (claim_bytes c ++ rest) 0 ≡ c
+pub claim-back : (c : Claim) (rest : List ℕ) → ClaimFits c → claim_from (claim_bytes c ++ rest) 0 ≡ c
 unfolding claim_from four_at date_from two_at byte_at claim_bytes
 claim-back c rest f =
     same-claim _ _
@@ -61,11 +61,11 @@ unfolding zeros zero_from byte_at
 zeros-zero zero rest = refl
 zeros-zero (suc n) rest = zero-drop (0 ∷ (zeros n ++ rest)) 1 n 1 0 refl ∙ zeros-zero n rest
 
-claim-padded : (c : Claim) (rest : List ℕ) → zero_from (claim_bytes c ++ rest) 25 7 ≡ true
+pub claim-padded : (c : Claim) (rest : List ℕ) → zero_from (claim_bytes c ++ rest) 25 7 ≡ true
 unfolding claim_bytes zero_from byte_at
 claim-padded c rest = refl
 
-drop_all : (cs : List Claim) (k : ℕ) (rest : List ℕ) → k ≤ length cs → drop (32 * k) (all_claim_bytes cs ++ rest) ≡ all_claim_bytes (drop k cs) ++ rest
+pub drop_all : (cs : List Claim) (k : ℕ) (rest : List ℕ) → k ≤ length cs → drop (32 * k) (all_claim_bytes cs ++ rest) ≡ all_claim_bytes (drop k cs) ++ rest
 unfolding all_claim_bytes claim_bytes
 drop_all cs zero rest h = refl
 drop_all [] (suc k) rest h = absurd (not-suc-le-zero h)

@@ -1,11 +1,10 @@
 -- The round trips of the calls, from those of blocks.
 -- Assumes nothing.
-use Prim.Native.Nat.{ℕ, zero, suc, ◌+◌, ◌≤◌, ◌<◌}
+use Prim.Native.Nat.{ℕ, suc, ◌≤◌, ◌<◌}
 use mathlib.Core.Path.{◌≡◌, refl, sym, ap, subst, ◌∙◌}
 use mathlib.Core.Bool.{Bool, true, ◌&&◌, and-eq-true_iff}
-use mathlib.Core.List.{List, [], ◌∷◌}
+use mathlib.Core.List.{List, []}
 use native.Mathlib.Omega.{arith}
-use native.Mathlib.Nat.{not-suc-le-zero}
 use lib.ListN.{length, get_or, set, take, get_or-eq_default}
 use lib.Seq.{length-take-le, get_or-take}
 use lib.Dec.{leb}
@@ -23,10 +22,10 @@ use Rattle.claim_file.specs.declared.WindowDates.{WindowDates}
 use Rattle.claim_file.specs.Bytes.{byte_at, two_at, date_from}
 use Rattle.claim_file.specs.Block.{block_claim, claim_count, window_block, claim_block, block_sound, window_bytes, bytes_of_block}
 use Rattle.claim_file.specs.BlockAnswers.{no_claim, claims_in, block_check, read_of, window_of, write_sound, write_check, bytes_after, window_after}
-use Rattle.claim_file.specs.Files.{claims_of_block}
 use Rattle.claim_file.specs.RoundTrip.{DateFits, ClaimFits, BlockFits, AreBytes, in_fifteen, RoundTrips}
 use Rattle.claim_file.proofs.BlockTests.{framed-number, claims-are, claim-block, window-is, window-block}
 use Rattle.claim_file.proofs.Reading.{placed, length-in, at_place, read_known, read-refused, window-known}
+use Rattle.claim_file.proofs.ReadBack.{first-claims}
 use Rattle.claim_file.proofs.WrittenBlocks.{write-is, write_done, window-done}
 use Rattle.claim_file.proofs.BlockTrips.{written_count, written-sound, written-claim, window-sound, window-first, window-last, rewritten, window-rewritten, framed-changed, changed-refused}
 use Rattle.std.specs.Prelude.{Err, Ok}
@@ -42,15 +41,6 @@ fifteen : (bytes : List ℕ) (cs : List Claim) → claim_count bytes ≡ length 
 unfolding in_fifteen
 fifteen bytes cs n h =
     list-table 15 (λ k. get_or cs k no_claim) no_claim (claims_in bytes 0 15) (length-in bytes 0 15) (λ k l. at_place bytes k l ∙ placed-so bytes cs k n (h k))
-
-first-claims : (bytes : List ℕ) (n m k : ℕ) → n ≤ m → k + n ≤ claim_count bytes → take n (claims_in bytes k m) ≡ claims_of_block bytes k n
-unfolding claims_in claims_of_block
-first-claims bytes zero m k h l = refl
-first-claims bytes (suc n) zero k h l = absurd (not-suc-le-zero h)
-first-claims bytes (suc n) (suc m) k h l =
-    λ i.
-    pick (le-leb (suc k) (claim_count bytes) (omega arith) i) (block_claim bytes k) no_claim
-    ∷ first-claims bytes n m (suc k) (omega arith) (omega arith) i
 
 -- a reading that is not refused is that of a claim block, and a reading of block 0 that of its dates
 read-passed : (number : ℕ) (bytes : List ℕ) → (read_of number bytes).refused ≡ 0 → (1 ≤ number) × (claim_block number bytes ≡ true)
