@@ -1,5 +1,6 @@
 -- `Wraps`, `Raised`: sums modulo 2⁶⁴, and rows raised by amounts. `Figures`, `SpanRows`, `RowGroups`: the figures of rows, spans and groups.
 -- `ListedRows`: a listing's part. `Takes`, `FileTakes`: the claims that a run takes. `GroupTotals`, `RowsDemand3`, `SameRows`: the theorems of files.
+-- `RowsTaken`: claims added to rows block by block.
 pub mod Wraps
 pub mod Raised
 pub mod Figures
@@ -11,3 +12,4 @@ pub mod FileTakes
 pub mod GroupTotals
 pub mod RowsDemand3
 pub mod SameRows
+mod RowsTaken

@@ -75,12 +75,12 @@ sum-size P f m h (c ∷ cs) a =
 
 -- ---- the rows
 
-map-table : (f : ℤ → ℤ) (n : ℕ) (g : ℕ → ℤ) → map f (table n g) ≡ table n (λ k. f (g k))
+pub map-table : (f : ℤ → ℤ) (n : ℕ) (g : ℕ → ℤ) → map f (table n g) ≡ table n (λ k. f (g k))
 unfolding table
 map-table f zero g = refl
 map-table f (suc n) g = ap (λ (xs : List ℤ). f (g 0) ∷ xs) (map-table f n (λ k. g (suc k)))
 
-over-same : (P : Claim → Type 0) (f g : Claim → ℤ) → ((c : Claim) → P c → f c ≡ g c) → (cs : List Claim) → All P cs
+pub over-same : (P : Claim → Type 0) (f g : Claim → ℤ) → ((c : Claim) → P c → f c ≡ g c) → (cs : List Claim) → All P cs
     → sum_over ◌+ℤ◌ (pos 0) f cs ≡ sum_over ◌+ℤ◌ (pos 0) g cs
 unfolding sum_over
 over-same P f g h [] a = refl

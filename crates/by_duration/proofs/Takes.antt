@@ -1,6 +1,6 @@
 -- The claims that a run takes of its file: the first ones, each added to the study before it.
 -- Assumes nothing.
-use Rattle.std.proofs.Common.{◌≡◌, ℕ, zero, suc, ◌+◌, ◌-◌, ◌*◌, ◌/◌, ◌<◌, ◌≤◌, min, true, false, eqb, ltb, List, [], ◌∷◌, ◌++◌, length, take, drop, sym, refl, ap, ◌∙◌, subst, ap₂, append-nil, length-append, length-drop, length-take, take_all, eq-eqb, ne_eqb, eqb-true}
+use Rattle.std.proofs.Common.{◌≡◌, ℕ, zero, suc, ◌+◌, ◌-◌, ◌*◌, ◌/◌, ◌<◌, ◌≤◌, min, eqb, ltb, List, [], ◌∷◌, ◌++◌, length, take, drop, sym, refl, ap, ◌∙◌, subst, ap₂, append-nil, length-append, length-drop, length-take, take_all, eq-eqb, ne_eqb, eqb-true}
 use mathlib.Core.Path.{subst⁻¹}
 use lib.Seq.{take-nil, take-length, take-append-le, take-append-add}
 use borrow.Author.Tests.{eqb-false}
@@ -16,12 +16,14 @@ use Rattle.study.specs.PreparedAdding.{add_check_with, added_with}
 use Rattle.claim_file.specs.Runs.{FileRun}
 use Rattle.claim_file.specs.Bytes.{date_from}
 use Rattle.claim_file.specs.Block.{block_claim, claim_count, block_sound}
+use Rattle.claim_file.specs.BlockAnswers.{record_in}
 use Rattle.claim_file.specs.Run.{going_on, stops, claims_from, begun, block_fed, fed}
 use Rattle.claim_file.specs.PreparedRuns.{adding_with}
 use Rattle.claim_file.specs.Files.{claims_of_block, claims_of_blocks, file_claims}
+use Rattle.claim_file.proofs.Reading.{sound-record}
 use Rattle.claim_file.proofs.Runs.{sound, fed-refused, fed-none, fed-turn, stops-refused}
 use Rattle.claim_months.specs.declared.Window.{Window}
-use Rattle.std.specs.Prelude.{Err, Ok, Result}
+use Rattle.std.specs.Prelude.{Err, Ok, Result, Some}
 
 -- ---- the claims of a file
 
@@ -112,7 +114,8 @@ module _ (kind : Kind) (table : List ℕ) where
     pub base-fresh : r.due ≡ 0 → r.study ≡ fresh r.study.window → base ≡ fresh base.window
     pub all : after.refused ≡ 0 → count ≡ claim_count block
     pub later : after.refused ≡ 0 → 1 ≤ after.due
-    pub whole : 0 < count → (length block ≡ 512) × (claim_count block ≤ 15)
+    pub whole : 0 < count → length block ≡ 512
+    pub records : (k : ℕ) → k < count → Some (block_claim block k) ≡ record_in block (16 + 32 * k)
 
   -- none is taken where the run is refused
   none-took : (r : FileRun) (block : List ℕ) (after : FileRun) → after.study ≡ r.study → (after.refused ≡ 0 → ⊥) → BlockTook r block after
@@ -128,6 +131,7 @@ module _ (kind : Kind) (table : List ℕ) where
         all = λ z. absurd (h z);
         later = λ z. absurd (h z);
         whole = λ z. absurd (omega tests);
+        records = λ k z. absurd (omega tests);
       }
 
   claims-later : (r : FileRun) (bytes : List ℕ) (n k : ℕ) (s : Study) → 1 ≤ r.due → 1 ≤ (claims_from r s add bytes k n).due
@@ -164,7 +168,8 @@ module _ (kind : Kind) (table : List ℕ) where
         base-fresh = λ z f. f;
         all = λ z. i.all z ∙ l;
         later = λ z. claims-later r block (claim_count block) 0 s d;
-        whole = λ z. (so.length-so, so.count_so);
+        whole = λ z. so.length-so;
+        records = λ k z. sound-record r.due block d q k (omega (tests, i.within, l));
       })
       (λ q. none-took r block (stops r s 11 0) refl (stops-refused r s 11 0 (λ (z : ◌≡◌ {A = ℕ} 11 0). absurd (omega tests)))))
 
@@ -193,6 +198,7 @@ module _ (kind : Kind) (table : List ℕ) where
         all = λ z. sym none;
         later = on;
         whole = λ z. absurd (omega tests);
+        records = λ k z. absurd (omega tests);
       }
 
   first-begun : (s : Study) (due : ℕ) (block : List ℕ) → due ≡ 0
@@ -288,7 +294,7 @@ module _ (kind : Kind) (table : List ℕ) where
       let rest = length-drop 512 b in
       by (ltb (length b) 512) (λ _. take (t.count + i.count) (file_claims b) ≡ take t.count here ++ take i.count later)
       (λ q.
-      let none : t.count ≡ 0 = none-of-part (take 512 b) t.count (λ z. (t.whole z).0) (omega tests) in
+      let none : t.count ≡ 0 = none-of-part (take 512 b) t.count t.whole (omega tests) in
       ap (take (t.count + i.count)) (no_block b (omega tests)) ∙ take-nil (t.count + i.count)
       ∙ sym
       (ap₂ (λ (xs ys : List Claim). xs ++ ys) (ap (λ (m : ℕ). take m here) none)
@@ -358,10 +364,11 @@ module _ (kind : Kind) (table : List ℕ) where
   -- fed a block: the claims are those of the block and of the rest, the window stays, and the run has a study or ends
   pub record Fed (r : FileRun) (b : List ℕ) : Type 0 where
     pub count : ℕ
-    pub count-is : count ≡ (fed r add (take 512 b)).study.taken - r.study.taken
+    pub taken : (fed r add (take 512 b)).study.taken ≡ r.study.taken + count
+    pub within : count ≤ claim_count (take 512 b)
     pub split : taken_from r b ≡ take count (in_block (take 512 b)) ++ taken_from (fed r add (take 512 b)) (drop 512 b)
     pub window : (fed r add b).study.window ≡ (fed r add (take 512 b)).study.window
-    pub whole : 0 < count → (length (take 512 b) ≡ 512) × ((claim_count (take 512 b) ≤ 15) × (count ≤ claim_count (take 512 b)))
+    pub records : (k : ℕ) → k < count → Some (block_claim (take 512 b) k) ≡ record_in (take 512 b) (16 + 32 * k)
     pub begins : Begins (fed r add (take 512 b))
     pub adds : r.due ≡ 0 → r.study ≡ fresh r.study.window → Adds (fresh (fed r add b).study.window) (taken_from r b) (fed r add b).study
 
@@ -406,10 +413,11 @@ module _ (kind : Kind) (table : List ℕ) where
         let two : (fed first add (drop 512 b)).study.taken - first.study.taken ≡ rest.count = omega (tests, all) in
         record {
           count = block.count;
-          count-is = omega (tests, block-taken);
+          taken = block-taken;
+          within = block.within;
           split = rw (one, two) (joined r b l block rest);
           window = ap (λ (x : FileRun). x.study.window) e ∙ adds-window first.study (fed first add (drop 512 b)).study (take rest.count (file_claims (drop 512 b))) rest.adds;
-          whole = λ z. ((block.whole z).0, ((block.whole z).1, block.within));
+          records = block.records;
           begins = λ u z. absurd (omega (tests, block.later u));
           adds = λ d f.
               let n : end.study.taken - r.study.taken ≡ block.count + rest.count = omega (tests, all, block-taken) in

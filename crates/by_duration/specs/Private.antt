@@ -11,6 +11,7 @@ use Rattle.claim_months.specs.Span.{span_weighted, span_closing, exposure_check}
 use Rattle.rates.specs.declared.Kind.{Kind}
 use Rattle.rates.specs.Prepared.{recovery_of, death_of}
 use Rattle.study.specs.Sums.{column_at, is_count}
+use Rattle.study.specs.Study.{sum_over}
 use Rattle.study.specs.Private.{column_rate}
 use Rattle.by_duration.specs.Rows.{row_at, in_row, row_weight, claim_figure}
 use Rattle.by_duration.specs.Wrapped.{as64}
@@ -53,3 +54,7 @@ span_figure kind n table cell sp r column =
 unfoldable pub checked_figure : Kind → ℕ → Window → List ℕ → Claim → Amounts
 checked_figure kind n w table c r column =
     pick (exposure_check c w.first.0 w.last.0 == 0 && has_cell table c.cell) (claim_figure kind n w table r column c) (pos 0)
+
+-- the same of some claims together
+unfoldable pub checked_sum : Kind → ℕ → Window → List ℕ → List Claim → Amounts
+checked_sum kind n w table claims r column = sum_over ◌+ℤ◌ (pos 0) (λ c. checked_figure kind n w table c r column) claims

@@ -2,4 +2,5 @@
 #![tactic(auto)]
 
 mod rows;
+pub mod run;
 mod wrapping;

@@ -177,7 +177,7 @@ window-last b e f =
     ∙ date-back e (zeros 486 ++ t) f
 
 -- 2. What was read rewrites to the very bytes.
-padded-at : (bytes : List ℕ) (n k : ℕ) → claims_padded bytes n ≡ true → k < n → record_padded bytes (16 + 32 * k) ≡ true
+pub padded-at : (bytes : List ℕ) (n k : ℕ) → claims_padded bytes n ≡ true → k < n → record_padded bytes (16 + 32 * k) ≡ true
 unfolding claims_padded
 padded-at bytes zero k p h = absurd (not-suc-le-zero h)
 padded-at bytes (suc n) k p h =

@@ -1,6 +1,6 @@
 -- Reading a claim block: the list of its claims with zeros in the places past them, and what a reading is as its test comes out.
 -- Assumes nothing.
-use Prim.Native.Nat.{ℕ, zero, suc, ◌+◌, ◌≤◌, ◌<◌}
+use Prim.Native.Nat.{ℕ, zero, suc, ◌+◌, ◌*◌, ◌≤◌, ◌<◌}
 use mathlib.Core.Path.{◌≡◌, refl, sym, ap, ◌∙◌}
 use mathlib.Core.Bool.{Bool, true, false, ◌&&◌, and-false}
 use mathlib.Core.List.{List, []}
@@ -9,17 +9,19 @@ use native.Mathlib.Nat.{not-suc-le-zero, le_of_suc-le-suc}
 use lib.ListN.{length, get_or, set, replicate, length-set, get_or-replicate}
 use lib.Seq.{ext_get_or, get_or-set_same, get_or-set_other}
 use lib.Dec.{leb, eqb}
-use borrow.Author.Tests.{le-leb, lt-leb, eqb-true, eqb-false}
+use borrow.Author.Tests.{ne_eqb, le-leb, lt-leb, eqb-true, eqb-false}
 use Rattle.basics.specs.Pick.{pick}
 use Rattle.basics.specs.Checks.{refuse_block}
 use Rattle.basics.proofs.Tests.{by, tests, and_right}
 use Rattle.claim_months.specs.declared.Claim.{Claim}
 use Rattle.claim_file.specs.BlockAnswers.{BlockRead}
 use Rattle.claim_file.specs.Bytes.{date_from}
-use Rattle.claim_file.specs.Block.{claim_count, block_claim, window_block, claim_block}
-use Rattle.claim_file.specs.BlockAnswers.{no_claim, claims_in, read_of, window_of}
+use Rattle.claim_file.specs.Block.{claim_count, block_claim, window_block, claim_block, block_sound}
+use Rattle.claim_file.specs.BlockAnswers.{no_claim, claims_in, record_in, read_of, window_of}
 use Rattle.claim_file.proofs.BlockTests.{claim-block}
-use Rattle.std.specs.Prelude.{Ok}
+use Rattle.claim_file.proofs.BlockTrips.{padded-at}
+use Rattle.claim_file.proofs.RecordParts.{record-found}
+use Rattle.std.specs.Prelude.{Ok, Some}
 
 -- what stands in place k when the first n claims have been read
 abbrev pub placed : List ℕ → ℕ → ℕ → Claim
@@ -114,3 +116,12 @@ pub window-known : (bytes : List ℕ) → window_block bytes ≡ true
     → Ok (record { first = date_from bytes 16; last = date_from bytes 20 }) ≡ window_of bytes
 unfolding window_of
 window-known bytes e = rw e
+
+-- each record of a sound block of claims is read
+pub sound-record : (due : ℕ) (bytes : List ℕ) → 1 ≤ due → block_sound due bytes ≡ true → (k : ℕ) → k < claim_count bytes
+    → Some (block_claim bytes k) ≡ record_in bytes (16 + 32 * k)
+unfolding block_sound block_claim
+sound-record due bytes low h k l =
+    let b = claim-block due bytes (rw (ne_eqb due 0 (λ (z : due ≡ 0). omega tests)) at h) in
+    record-found bytes (16 + 32 * k) (le-leb (16 + 32 * k + 32) (length bytes) (omega (tests, b.length-so, b.count_so)))
+    (padded-at bytes (claim_count bytes) k b.padded-so l)
