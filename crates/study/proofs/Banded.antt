@@ -2,7 +2,7 @@
 -- One law serves thirtieths, recoveries and deaths.
 -- Assumes nothing.
 use Prim.Native.Nat.{ℕ, zero, suc, ◌+◌, ◌-◌, ◌*◌, ◌≤◌, ◌<◌}
-use mathlib.Core.Path.{◌≡◌, refl, ap, ap₂, ◌∙◌}
+use mathlib.Core.Path.{◌≡◌, refl, ap, ap₂, subst, ◌∙◌}
 use native.Mathlib.Omega.{arith}
 use native.Mathlib.Nat.{add-zero}
 use lib.IntN.{ℤ, pos, negsuc, nat_abs, neg_ℤ, ◌-ℤ◌, ◌*ℤ◌, +ℤ_idl}
@@ -27,11 +27,11 @@ size-opposite (negsuc n) = refl
 pub size-difference : (x y : ℤ) → nat_abs (x -ℤ y) ≤ nat_abs x + nat_abs y
 size-difference x y = omega (arith, size-sum x (neg_ℤ y), size-opposite y)
 
--- 30 times a sum over m months, less two numbers
-pub record Less (x y z : ℤ) (m : ℕ) : Type 0 where
+-- 30 times a sum over m months, less two numbers, is v
+pub record Less (m : ℕ) (x y z v : ℤ) : Type 0 where
   pub first_fits : SFits w64 (back (pos 30 *ℤ back x) -ℤ back y)
   pub both-fits : SFits w64 (back (back (pos 30 *ℤ back x) -ℤ back y) -ℤ back z)
-  pub is : back (back (back (pos 30 *ℤ back x) -ℤ back y) -ℤ back z) ≡ pos 30 *ℤ x -ℤ y -ℤ z
+  pub is : back (back (back (pos 30 *ℤ back x) -ℤ back y) -ℤ back z) ≡ v
   pub size : nat_abs (back (back (back (pos 30 *ℤ back x) -ℤ back y) -ℤ back z)) ≤ 400000000000 * m
 
 module _ (x y z : ℤ) (m : ℕ) (some : 0 < m) (few : m ≤ 1800) (hx : nat_abs x ≤ 4294967295 * m) (hy : nat_abs y ≤ 128849018850)
@@ -60,7 +60,7 @@ module _ (x y z : ℤ) (m : ℕ) (some : 0 < m) (few : m ≤ 1800) (hx : nat_abs
   both_is : back (back (back (pos 30 *ℤ back x) -ℤ back y) -ℤ back z) ≡ whole -ℤ y -ℤ z
   both_is = ap back both-step ∙ read_back (whole -ℤ y -ℤ z) (omega (arith, both-size))
 
-  pub less : Less x y z m
+  pub less : Less m x y z (pos 30 *ℤ x -ℤ y -ℤ z)
   less =
       record {
         first_fits = rw first_step (small-fits (whole -ℤ y) (omega (arith, first-size)));
@@ -68,13 +68,6 @@ module _ (x y z : ℤ) (m : ℕ) (some : 0 < m) (few : m ≤ 1800) (hx : nat_abs
         is = both_is;
         size = rw both_is both-size;
       }
-
--- where the three are a band's parts, it is the band
-pub record Band (w : ℕ → ℤ) (d m b s : ℕ) (x y z : ℤ) : Type 0 where
-  pub first_fits : SFits w64 (back (pos 30 *ℤ back x) -ℤ back y)
-  pub both-fits : SFits w64 (back (back (pos 30 *ℤ back x) -ℤ back y) -ℤ back z)
-  pub is : back (back (back (pos 30 *ℤ back x) -ℤ back y) -ℤ back z) ≡ band_sum w d m b s
-  pub size : nat_abs (back (back (back (pos 30 *ℤ back x) -ℤ back y) -ℤ back z)) ≤ 400000000000 * m
 
 -- the rates over one duration are its rate
 pub one-rate : (w : ℕ → ℤ) (d : ℕ) → 2 ≤ d → rates_over w d 1 ≡ w d
@@ -92,13 +85,13 @@ module _ (w : ℕ → ℤ) (d t : ℕ) (y : ℤ) (low : 2 ≤ d) (few : t ≤ 30
   lacked-size : nat_abs y ≤ 4294967295 * nat_abs (to_z w32 t) → nat_abs y ≤ 128849018850
   lacked-size h = let e = rw counted at h in omega (arith, e)
 
+-- where the three are a band's parts, it is the band
 pub banded : (w : ℕ → ℤ) (d m b s : ℕ) (x y z : ℤ) → 2 ≤ d → 0 < m → m ≤ 1800 → b ≤ 30 → s ≤ 30 → x ≡ rates_over w d m → nat_abs x ≤ 4294967295 * m
     → y ≡ to_z w32 b *ℤ rates_over w d 1 → nat_abs y ≤ 4294967295 * nat_abs (to_z w32 b) → z ≡ to_z w32 s *ℤ rates_over w (d + (m - 1)) 1
-    → nat_abs z ≤ 4294967295 * nat_abs (to_z w32 s) → Band w d m b s x y z
+    → nat_abs z ≤ 4294967295 * nat_abs (to_z w32 s) → Less m x y z (band_sum w d m b s)
 unfolding band_sum
 banded w d m b s x y z low some few hb hs ex hx ey hy ez hz =
-    let l : Less x y z m = less x y z m some few hx (lacked-size w d b y low hb hy) (lacked-size w (d + (m - 1)) s z (omega arith) hs hz) in
     let p = ex ∙ over-is w d m low in
     let q = lacked w d b y low hb ey in
     let r = lacked w (d + (m - 1)) s z (omega arith) hs ez in
-    record { first_fits = l.first_fits; both-fits = l.both-fits; is = l.is ∙ (λ i. pos 30 *ℤ p i -ℤ q i -ℤ r i); size = l.size }
+    subst (Less m x y z) (λ i. pos 30 *ℤ p i -ℤ q i -ℤ r i) (less x y z m some few hx (lacked-size w d b y low hb hy) (lacked-size w (d + (m - 1)) s z (omega arith) hs hz))
