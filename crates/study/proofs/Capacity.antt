@@ -33,6 +33,7 @@ use Rattle.study.specs.Sums.{group_at, column_at, is_count, times_at, none, plus
 use Rattle.study.specs.Study.{count_in_group, group_weight, exposure, closing_count, expected, figure, record_sums, share_of, sum_over, study_of, has_room, own_refusal}
 use Rattle.study.specs.PreparedAdding.{share_with}
 use Rattle.study.proofs.Algebra.{Shaped, at, each_at, none-at, times-shaped, times-at}
+use Rattle.study.proofs.Places.{by_column}
 use Rattle.study.proofs.InBounds.{place_bound, in_is, all-is}
 use Rattle.study.proofs.SumOver.{All}
 
@@ -88,17 +89,10 @@ module _ (m : ℕ) (recovery death : ℕ → ℤ) (p : (d : ℕ) → nat_abs (re
   unfolding figure size_in
   figure-size g column =
       let rs = month_records c b e in
-      by (is_count column)
-      (λ t. nat_abs (pick t (pos (closing_count g column rs)) (pick (eqb column 0) (exposure g rs) (pick (eqb column 6) (expected recovery g rs) (expected death g rs))))
-      ≤ pick t 1 (pick (eqb column 0) 54000 (m * 30 * 1800)))
-      (λ _. closing-one c ok b e g column)
-      (λ _.
-      by (eqb column 0)
-      (λ t. nat_abs (pick t (exposure g rs) (pick (eqb column 6) (expected recovery g rs) (expected death g rs))) ≤ pick t 54000 (m * 30 * 1800))
-      (λ _. exposure-size c b e g)
-      (λ _.
-      by (eqb column 6) (λ t. nat_abs (pick t (expected recovery g rs) (expected death g rs)) ≤ m * 30 * 1800) (λ _. expected-size m recovery p c b e g)
-      (λ _. expected-size m death q c b e g)))
+      by_column column
+      (λ s t u. nat_abs (pick s (pos (closing_count g column rs)) (pick t (exposure g rs) (pick u (expected recovery g rs) (expected death g rs))))
+      ≤ pick s 1 (pick t 54000 (m * 30 * 1800)))
+      (λ _ _. closing-one c ok b e g column) (λ _. exposure-size c b e g) (expected-size m recovery p c b e g) (expected-size m death q c b e g)
 
 -- a figure of closings is not below 0
 figure-count : (recovery death : ℕ → ℤ) (g column : ℕ) (rs : List MonthRecord) → is_count column ≡ true → non_neg (figure recovery death g column rs) ≡ true
@@ -189,10 +183,8 @@ plus-sized x m n a b p q =
 claims-bound : (column : ℕ) → size_in 54000000000 column * 500000 ≤ column_bound column
 unfolding size_in column_bound
 claims-bound column =
-    by (is_count column)
-    (λ t. pick t 1 (pick (eqb column 0) 54000 54000000000) * 500000 ≤ pick t 500000 (pick (eqb column 0) 27000000000 27000000000000000)) (λ _. omega tests)
-    (λ _.
-    by (eqb column 0) (λ t. pick t 54000 54000000000 * 500000 ≤ pick t 27000000000 27000000000000000) (λ _. omega tests) (λ _. omega tests))
+    by_column column (λ s t _. pick s 1 (pick t 54000 54000000000) * 500000 ≤ pick s 500000 (pick t 27000000000 27000000000000000))
+    (λ _ _. omega tests) (λ _. omega tests) (omega tests) (omega tests)
 
 sized-within : (m : ℕ) (s : List ℤ) → m ≤ 500000 → Sized 54000000000 m s → within s ≡ true
 sized-within m s h z =

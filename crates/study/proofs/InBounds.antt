@@ -4,7 +4,7 @@ use Prim.Native.Nat.{ℕ, zero, suc, ◌+◌, ◌*◌, ◌≤◌, ◌<◌}
 use mathlib.Core.Path.{◌≡◌, refl, sym, ap, ap₂, ◌∙◌}
 use mathlib.Core.Bool.{Bool, true, ◌&&◌, and_assoc}
 use mathlib.Core.List.{List, map, [], ◌∷◌}
-use lib.Dec.{leb, ltb, eqb}
+use lib.Dec.{leb, ltb}
 use lib.IntN.{ℤ, nat_abs}
 use lib.Signed.{non_neg}
 use native.Mathlib.Nat.{mul-le-mul, mul-le-mul_left}
@@ -24,6 +24,7 @@ use Rattle.study.specs.declared.bounds.Bounds.{Bounds}
 use Rattle.study.specs.Private.{bound_in, counts_in_bounds, group_in_bounds}
 use Rattle.study.specs.Sums.{column_at, is_count, times_at, column_bound, in_bounds, all_in_bounds, within}
 use Rattle.study.proofs.Algebra.{at}
+use Rattle.study.proofs.Places.{by_column}
 
 -- one number
 module _ (n column : ℕ) (x : ℤ) where
@@ -75,11 +76,11 @@ pub times-most : (k : ℕ) → times_at most_benefit k ≤ most_benefit
 unfolding times_at
 times-most k = by (ltb k 40) (λ t. pick t 1 most_benefit ≤ most_benefit) (λ q. omega tests) (λ q. omega tests)
 
-column-most : (column : ℕ) → column_bound column ≤ most_expected
+pub column-most : (column : ℕ) → column_bound column ≤ most_expected
 unfolding column_bound
 column-most column =
-    by (is_count column) (λ t. pick t most_claims (pick (eqb column 0) most_thirtieths most_expected) ≤ most_expected) (λ q. omega tests)
-    (λ q. by (eqb column 0) (λ t. pick t most_thirtieths most_expected ≤ most_expected) (λ q. omega tests) (λ q. omega tests))
+    by_column column (λ s t _. pick s most_claims (pick t most_thirtieths most_expected) ≤ most_expected) (λ _ _. omega tests) (λ _. omega tests)
+    (omega tests) (omega tests)
 
 -- a number of sums within the bounds of refusal 9
 module _ (s : List ℤ) (h : within s ≡ true) (k : ℕ) (l : k < 80) where

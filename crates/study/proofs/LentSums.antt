@@ -22,27 +22,21 @@ use Rattle.claim_months.specs.Windows.{window_check}
 use Rattle.rates.specs.declared.Kind.{Kind}
 use Rattle.rates.specs.Prepared.{table_check_of}
 use Rattle.study.specs.declared.Study.{Study}
-use Rattle.study.specs.Sums.{column_at, is_count, times_at, each, plus, column_bound, in_bounds, all_in_bounds, within}
+use Rattle.study.specs.Sums.{column_at, times_at, each, plus, column_bound, in_bounds, all_in_bounds, within}
 use Rattle.study.specs.Study.{has_room, room_check}
 use Rattle.study.specs.PreparedAdding.{share_with, add_check_with, added_with, lent_study, spare_bound, room_for, guarded_sum, guarded_plus, add_check_told, added_to_lent, LentAdding}
 use Rattle.study.proofs.Algebra.{at, each_at}
-use Rattle.study.proofs.InBounds.{in_size, in_count, in_is, place_bound, all-at, all-is, all-wider}
+use Rattle.study.proofs.Places.{by_column}
+use Rattle.study.proofs.InBounds.{in_size, in_count, in_is, place_bound, all-at, all-is, all-wider, column-most}
 use Rattle.study.proofs.Capacity.{size_in, Sized, plus-count, table-sized}
 use Rattle.study.proofs.WithSpan.{answer}
-
--- no bound of refusal 9 is above that of the expected sums
-bound-high : (column : ℕ) → column_bound column ≤ most_expected
-unfolding column_bound
-bound-high column =
-    by (is_count column) (λ t. pick t most_claims (pick (eqb column 0) most_thirtieths most_expected) ≤ most_expected) (λ _. omega tests)
-    (λ _. by (eqb column 0) (λ t. pick t most_thirtieths most_expected ≤ most_expected) (λ _. omega tests) (λ _. omega tests))
 
 -- sums within the bounds of refusal 9 are not guarded
 guarded-sum : (k : ℕ) (x y : ℤ) → in_bounds (place_bound column_bound k) (column_at k) x ≡ true → guarded_sum k x y ≡ x +ℤ y
 unfolding guarded_sum
 guarded-sum k x y h =
     let s = in_size (place_bound column_bound k) (column_at k) x h in
-    let b : place_bound column_bound k ≤ times_at most_benefit k * most_expected = mul-le-mul_left (times_at most_benefit k) (bound-high (column_at k)) in
+    let b : place_bound column_bound k ≤ times_at most_benefit k * most_expected = mul-le-mul_left (times_at most_benefit k) (column-most (column_at k)) in
     rw (le-leb (nat_abs x) (times_at most_benefit k * most_expected) (omega tests)) refl
 
 pub guarded-plus : (a b : List ℤ) → within a ≡ true → guarded_plus a b ≡ plus a b
@@ -61,15 +55,10 @@ room_none s = ap (λ (b : ℕ → ℕ). all_in_bounds b s) (fun_ext spare-none)
 spare-fewer : (n m column : ℕ) → m ≤ n → spare_bound n column ≤ spare_bound m column
 unfolding spare_bound
 spare-fewer n m column h =
-    by (is_count column)
-    (λ t. pick t (most_claims - n) (pick (eqb column 0) (most_thirtieths - 54000 * n) (most_expected - 240000000000000 * n))
-    ≤ pick t (most_claims - m) (pick (eqb column 0) (most_thirtieths - 54000 * m) (most_expected - 240000000000000 * m)))
-    (λ _. omega tests)
-    (λ _.
-    by (eqb column 0)
-    (λ t. pick t (most_thirtieths - 54000 * n) (most_expected - 240000000000000 * n)
-    ≤ pick t (most_thirtieths - 54000 * m) (most_expected - 240000000000000 * m))
-    (λ _. omega tests) (λ _. omega tests))
+    by_column column
+    (λ s t _. pick s (most_claims - n) (pick t (most_thirtieths - 54000 * n) (most_expected - 240000000000000 * n))
+    ≤ pick s (most_claims - m) (pick t (most_thirtieths - 54000 * m) (most_expected - 240000000000000 * m)))
+    (λ _ _. omega tests) (λ _. omega tests) (omega tests) (omega tests)
 
 room-fewer : (n m : ℕ) (s : List ℤ) → m ≤ n → room_for n s ≡ true → room_for m s ≡ true
 room-fewer n m s h r = all-wider (spare_bound n) (spare_bound m) s (λ column. spare-fewer n m column h) r
@@ -81,16 +70,11 @@ room_within n s r = sym (room_none s) ∙ room-fewer n 0 s (omega tests) r
 one_less : (n column : ℕ) → suc n ≤ 100 → spare_bound (suc n) column + size_in 231928233930000 column * 1 ≤ spare_bound n column
 unfolding spare_bound size_in
 one_less n column h =
-    by (is_count column)
-    (λ t. pick t (most_claims - suc n) (pick (eqb column 0) (most_thirtieths - 54000 * suc n) (most_expected - 240000000000000 * suc n))
-    + pick t 1 (pick (eqb column 0) 54000 231928233930000) * 1
-    ≤ pick t (most_claims - n) (pick (eqb column 0) (most_thirtieths - 54000 * n) (most_expected - 240000000000000 * n)))
-    (λ _. omega tests)
-    (λ _.
-    by (eqb column 0)
-    (λ t. pick t (most_thirtieths - 54000 * suc n) (most_expected - 240000000000000 * suc n) + pick t 54000 231928233930000 * 1
-    ≤ pick t (most_thirtieths - 54000 * n) (most_expected - 240000000000000 * n))
-    (λ _. omega tests) (λ _. omega tests))
+    by_column column
+    (λ s t _. pick s (most_claims - suc n) (pick t (most_thirtieths - 54000 * suc n) (most_expected - 240000000000000 * suc n))
+    + pick s 1 (pick t 54000 231928233930000) * 1
+    ≤ pick s (most_claims - n) (pick t (most_thirtieths - 54000 * n) (most_expected - 240000000000000 * n)))
+    (λ _ _. omega tests) (λ _. omega tests) (omega tests) (omega tests)
 
 spare-kept : (n : ℕ) (a b : List ℤ) → suc n ≤ 100 → Sized 231928233930000 1 b → room_for (suc n) a ≡ true → room_for n (plus a b) ≡ true
 spare-kept n a b h z r =

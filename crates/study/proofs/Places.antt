@@ -3,7 +3,7 @@
 use Prim.Native.Nat.{ℕ, ◌+◌, ◌-◌, ◌*◌, ◌≤◌, ◌<◌}
 use mathlib.Core.Path.{◌≡◌, refl}
 use native.Mathlib.Nat.{zero-mul}
-use mathlib.Core.Bool.{true, false, ◌&&◌}
+use mathlib.Core.Bool.{Bool, true, false, ◌&&◌}
 use lib.Dec.{leb, ltb, eqb}
 use borrow.Author.Tests.{le-leb, lt-leb, lt-ltb, le-ltb, eq-eqb, ne_eqb}
 use Rattle.basics.specs.Pick.{pick}
@@ -37,6 +37,13 @@ pub no-count : (column : ℕ) → (1 ≤ column → 5 < column) → is_count col
 unfolding is_count
 no-count column h =
     by (leb 1 column) (λ t. (t && leb column 5) ≡ false) (λ q. rw (lt-leb column 5 (h (omega tests))) refl) (λ q. refl)
+
+-- the kinds of columns: counts, thirtieths, expected recoveries, expected deaths
+pub by_column : (column : ℕ) (P : Bool → Bool → Bool → Type 0) → ((t u : Bool) → P true t u) → ((u : Bool) → P false true u) → P false false true
+    → P false false false → P (is_count column) (eqb column 0) (eqb column 6)
+by_column column P a b c d =
+    by (is_count column) (λ s. P s (eqb column 0) (eqb column 6)) (λ _. a (eqb column 0) (eqb column 6))
+    (λ _. by (eqb column 0) (λ t. P false t (eqb column 6)) (λ _. b (eqb column 6)) (λ _. by (eqb column 6) (P false false) (λ _. c) (λ _. d)))
 
 -- a group is one of five
 pub ruleset group_range = (group-low, group-high)

@@ -2,25 +2,26 @@
 -- Assumes nothing.
 use Prim.Native.Nat.{ℕ, ◌+◌, ◌*◌, ◌≤◌, ◌<◌}
 use mathlib.Core.Path.{◌≡◌, sym, ap, ap₂, ◌∙◌}
+use mathlib.Core.Bool.{Bool}
 use mathlib.Core.List.{List}
 use lib.Dec.{eqb}
 use lib.IntN.{ℤ, pos, ◌+ℤ◌, ◌*ℤ◌}
 use Rattle.basics.specs.Pick.{pick}
-use Rattle.basics.proofs.Tests.{by}
 use Rattle.basics.proofs.Integers.{times-sum}
 use Rattle.claim_months.specs.declared.Claim.{Claim}
 use Rattle.claim_months.specs.declared.Window.{Window}
 use Rattle.claim_months.specs.Claim.{weight}
-use Rattle.claim_months.specs.Exposure.{month_records}
+use Rattle.claim_months.specs.Exposure.{MonthRecord, month_records}
 use Rattle.claim_months.specs.Windows.{total, EveryPart}
 use Rattle.claim_months.proofs.Sound.{Sound}
 use Rattle.claim_months.proofs.Parts.{SoundParts, every_map, total-same, parts_total}
 use Rattle.claim_months.proofs.Additive.{cut-weighted}
 use Rattle.claim_months.proofs.Closing.{cut-closings}
 use Rattle.study.specs.declared.Study.{Study}
-use Rattle.study.specs.Sums.{group_at, column_at, is_count, times_at, none, plus}
+use Rattle.study.specs.Sums.{group_at, column_at, times_at, none, plus}
 use Rattle.study.specs.Study.{count_in_group, group_weight, exposure, closing_count, expected, figure, record_sums, share_of, study_of}
 use Rattle.study.proofs.Algebra.{Shaped, at, each-is}
+use Rattle.study.proofs.Places.{by_column}
 use Rattle.study.proofs.SumOver.{All, sums, sum_same, total-sums}
 use Rattle.study.proofs.Capacity.{Accepted, accepted-sound, records-at, share-shaped}
 
@@ -34,25 +35,12 @@ module _ (recovery death : ℕ → ℤ) (c : Claim) (ok : Sound c) (b m e : ℕ)
       ≡ figure recovery death g column (month_records c b e)
   unfolding figure exposure closing_count expected
   cut-figure g column =
-      let one = month_records c b m in
-      let other = month_records c (m + 1) e in
-      let both = month_records c b e in
-      by (is_count column)
-      (λ t. pick t (pos (closing_count g column one)) (pick (eqb column 0) (exposure g one) (pick (eqb column 6) (expected recovery g one) (expected death g one)))
-      +ℤ pick t (pos (closing_count g column other)) (pick (eqb column 0) (exposure g other) (pick (eqb column 6) (expected recovery g other) (expected death g other)))
-      ≡ pick t (pos (closing_count g column both)) (pick (eqb column 0) (exposure g both) (pick (eqb column 6) (expected recovery g both) (expected death g both))))
-      (λ _. ap pos (cut-closings c ok (λ d y. count_in_group g d * pick (eqb y column) 1 0) b m e bm me))
-      (λ _.
-      by (eqb column 0)
-      (λ t. pick t (exposure g one) (pick (eqb column 6) (expected recovery g one) (expected death g one))
-      +ℤ pick t (exposure g other) (pick (eqb column 6) (expected recovery g other) (expected death g other))
-      ≡ pick t (exposure g both) (pick (eqb column 6) (expected recovery g both) (expected death g both)))
+      let of : Bool → Bool → Bool → List MonthRecord → ℤ =
+      λ s t u rs. pick s (pos (closing_count g column rs)) (pick t (exposure g rs) (pick u (expected recovery g rs) (expected death g rs))) in
+      by_column column (λ s t u. of s t u (month_records c b m) +ℤ of s t u (month_records c (m + 1) e) ≡ of s t u (month_records c b e))
+      (λ _ _. ap pos (cut-closings c ok (λ d y. count_in_group g d * pick (eqb y column) 1 0) b m e bm me))
       (λ _. cut-weighted c ok (group_weight g (λ d. pos 1)) b m e bm me)
-      (λ _.
-      by (eqb column 6)
-      (λ t. pick t (expected recovery g one) (expected death g one) +ℤ pick t (expected recovery g other) (expected death g other)
-      ≡ pick t (expected recovery g both) (expected death g both))
-      (λ _. cut-weighted c ok (group_weight g recovery) b m e bm me) (λ _. cut-weighted c ok (group_weight g death) b m e bm me)))
+      (cut-weighted c ok (group_weight g recovery) b m e bm me) (cut-weighted c ok (group_weight g death) b m e bm me)
 
   -- and so do the sums over its month records: multiplying distributes over the sum
   cut-records : (n k : ℕ) → k < 80

@@ -25,10 +25,11 @@ use Rattle.claim_months.proofs.SpanAnswers.{exposure-checks, exposed, spanned, s
 use Rattle.rates.specs.declared.Kind.{Kind}
 use Rattle.study.specs.declared.Study.{Study}
 use Rattle.study.specs.Answers.{Answer}
-use Rattle.study.specs.Sums.{group_at, column_at, is_count, times_at}
+use Rattle.study.specs.Sums.{group_at, column_at, times_at}
 use Rattle.study.specs.Study.{count_in_group, group_weight, exposure, closing_count, expected, figure, record_sums}
 use Rattle.study.specs.PreparedAdding.{share_with, lent_study, guarded_plus, add_check_told, added_to_lent}
 use Rattle.study.specs.Private.{column_rate, months_figure, closing_figure, share_by, span_figure, span_share, span_number, span_sums}
+use Rattle.study.proofs.Places.{by_column}
 use Rattle.study.proofs.Capacity.{records-at, records-shaped}
 use Rattle.std.specs.Prelude.{Err, Ok}
 
@@ -47,18 +48,12 @@ module _ (c : Claim) (ok : Sound c) (b e : ℕ) (h : e ≤ last_day_number) wher
   span-figure recovery death g column =
       let months : (ℕ → ℤ) → ℤ = λ w. span_weighted (group_weight g w) sp sp.months in
       let closing : ℤ = pos (span_closing (λ d y. count_in_group g d * pick (eqb y column) 1 0) sp) in
-      by (is_count column)
-      (λ t. pick t (pick t closing (pos 0)) (pick t (pos 0) (months (pick (eqb column 0) (λ d. pos 1) (pick (eqb column 6) recovery death))))
-      ≡ pick t (pos (closing_count g column records)) (pick (eqb column 0) (exposure g records) (pick (eqb column 6) (expected recovery g records) (expected death g records))))
-      (λ _. sym (ap pos (span-closings c ok b e h (λ d y. count_in_group g d * pick (eqb y column) 1 0))))
-      (λ _.
-      by (eqb column 0)
-      (λ t. months (pick t (λ d. pos 1) (pick (eqb column 6) recovery death))
-      ≡ pick t (exposure g records) (pick (eqb column 6) (expected recovery g records) (expected death g records)))
+      by_column column
+      (λ s t u. pick s (pick s closing (pos 0)) (pick s (pos 0) (months (pick t (λ d. pos 1) (pick u recovery death))))
+      ≡ pick s (pos (closing_count g column records)) (pick t (exposure g records) (pick u (expected recovery g records) (expected death g records))))
+      (λ _ _. sym (ap pos (span-closings c ok b e h (λ d y. count_in_group g d * pick (eqb y column) 1 0))))
       (λ _. sym (span-weighted c ok b e h (group_weight g (λ d. pos 1))))
-      (λ _.
-      by (eqb column 6) (λ t. months (pick t recovery death) ≡ pick t (expected recovery g records) (expected death g records))
-      (λ _. sym (span-weighted c ok b e h (group_weight g recovery))) (λ _. sym (span-weighted c ok b e h (group_weight g death)))))
+      (sym (span-weighted c ok b e h (group_weight g recovery))) (sym (span-weighted c ok b e h (group_weight g death)))
 
   span-records : (recovery death : ℕ → ℤ) (n : ℕ) → share_by n (span_figure recovery death sp) ≡ record_sums recovery death n records
   unfolding share_by

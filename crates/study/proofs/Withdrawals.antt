@@ -5,7 +5,7 @@ use mathlib.Core.Path.{◌≡◌, refl, sym, ap, ◌∙◌}
 use mathlib.Core.Bool.{Bool, true, ◌&&◌}
 use mathlib.Core.List.{List}
 use native.Mathlib.Nat.{mul-le-mul}
-use lib.Dec.{leb, ltb, eqb}
+use lib.Dec.{leb, ltb}
 use lib.IntN.{ℤ, nat_abs, ◌-ℤ◌}
 use lib.Signed.{le_z}
 use mir.Syntax.{w64}
@@ -18,7 +18,7 @@ use Rattle.basics.specs.Tables.{all_at_most}
 use Rattle.basics.specs.Refused.{number_of}
 use Rattle.basics.specs.declared.refusal.Refusal.{Refusal}
 use Rattle.basics.proofs.Refused.{numbered-from-1}
-use Rattle.basics.proofs.Tests.{tests, by, and_left, and_right}
+use Rattle.basics.proofs.Tests.{tests, and_left, and_right}
 use Rattle.basics.proofs.Checks.{then-passed, then_next, then-fails, then-assoc, check-passed}
 use Rattle.basics.proofs.Signed.{Small, result_fits, result-is}
 use Rattle.basics.proofs.Tables.{within-list, within-at}
@@ -36,6 +36,7 @@ use Rattle.study.specs.Withdrawing.{withdraw_room, covers}
 use Rattle.study.specs.PreparedWithdrawing.{can_withdraw_with, withdraw_check_with, withdrawn_with}
 use Rattle.study.specs.Private.{share_number, small_share, last_checks}
 use Rattle.study.proofs.Algebra.{Shaped, at}
+use Rattle.study.proofs.Places.{by_column}
 use Rattle.study.proofs.InBounds.{times-most, within-high}
 use Rattle.study.proofs.Banded.{size-difference}
 use Rattle.study.proofs.Capacity.{size_in, Sized, records-shaped, table-sized}
@@ -92,8 +93,8 @@ module _ (sums share : List ℤ) (w : within sums ≡ true) (s : small_share sha
 size-most : (column : ℕ) → size_in 231928233930000 column * 1 ≤ 231928233930000
 unfolding size_in
 size-most column =
-    by (is_count column) (λ t. pick t 1 (pick (eqb column 0) 54000 231928233930000) * 1 ≤ 231928233930000) (λ q. omega tests)
-    (λ q. by (eqb column 0) (λ t. pick t 54000 231928233930000 * 1 ≤ 231928233930000) (λ q. omega tests) (λ q. omega tests))
+    by_column column (λ s t _. pick s 1 (pick t 54000 231928233930000) * 1 ≤ 231928233930000) (λ _ _. omega tests) (λ _. omega tests)
+    (omega tests) (omega tests)
 
 sized-small : (s : List ℤ) → Shaped s → Sized 231928233930000 1 s → small_share s ≡ true
 unfolding small_share
