@@ -2,7 +2,7 @@
 -- Assumes nothing.
 use Prim.Native.Nat.{ℕ, ◌+◌, ◌-◌, ◌*◌, ◌≤◌, ◌<◌}
 use mathlib.Core.Path.{◌≡◌, refl}
-use native.Mathlib.Nat.{zero-mul}
+use native.Mathlib.Nat.{zero-mul, mul-le-mul}
 use mathlib.Core.Bool.{Bool, true, false, ◌&&◌}
 use lib.Dec.{leb, ltb, eqb}
 use borrow.Author.Tests.{le-leb, lt-leb, lt-ltb, le-ltb, eq-eqb, ne_eqb}
@@ -27,6 +27,8 @@ unfolding times_at
 group-times n g x h =
     by (ltb (8 * g) 40) (λ t. pick t 1 n ≡ pick (ltb (8 * g + x) 40) 1 n)
     (λ q. rw (lt-ltb (8 * g + x) 40 (omega tests)) refl) (λ q. rw (le-ltb (8 * g + x) 40 (omega tests)) refl)
+
+pub ruleset group_bounds = (group-times, mul-le-mul)
 
 -- the columns 1 to 5 have counts, and no others
 pub a-count : (column : ℕ) → 1 ≤ column → column ≤ 5 → is_count column ≡ true

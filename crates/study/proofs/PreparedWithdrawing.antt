@@ -26,9 +26,11 @@ use Rattle.study.specs.Withdrawing.{withdraw_room, covers, can_withdraw, withdra
 use Rattle.study.specs.PreparedWithdrawing.{can_withdraw_with, withdraw_check_with, withdrawn_with, SameWithdrawing}
 use Rattle.study.proofs.EitherTable.{prepared-share}
 
-plain-withdrawn : (s : Study) (c : Claim) (rates : List ℕ) → withdrawn_with Plain s c rates ≡ withdrawn s c rates
+pub plain-withdrawn : (s : Study) (c : Claim) (rates : List ℕ) → withdrawn_with Plain s c rates ≡ withdrawn s c rates
 unfolding withdrawn_with withdraw_check_with can_withdraw_with share_with withdrawn withdraw_check can_withdraw without_claim share_of table_check_of recovery_of death_of
 plain-withdrawn s c rates = refl
+
+pub ruleset plain_rates = (plain-withdrawn)
 
 module _ (s : Study) (c : Claim) where
   -- the answer, where n is the number of the table's check and x the claim's share

@@ -74,6 +74,7 @@ fn band_end(first: Duration, last: Duration) -> Duration
 
 impl Share {
     // What U of a band's last month is short of 30: only the span's last month can lack something.
+    #[tactic(auto, unfolding(claim_months::specs::Span::span_u))]
     fn band_short(self, end: Duration, last: Duration) -> Thirtieths
         requires first_le_end { self.span.first.0 ≤ end.0 }
         requires last_value { last.0 + 1 ≡ self.span.first.0 + self.span.months }

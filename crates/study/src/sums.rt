@@ -64,6 +64,7 @@ fn column_bound(column: usize) -> u64
 }
 
 // The bound of refusal 9 at a place.
+#[tactic(auto, using(crate::proofs::Places::group_bounds))]
 pub(crate) fn bound_at(place: usize) -> u64
     requires { place < 80 }
     ensures value { result ≡ times_at most_benefit place * column_bound (place % 8) }
@@ -148,6 +149,7 @@ pub fn has_room_for_block(sums: &[i64; 80]) -> bool
 }
 
 // Adds an amount at a place, unless the sum is past every bound of its set: so 64 bits hold any sum.
+#[tactic(auto, unfolding(crate::specs::PreparedAdding::guarded_sum))]
 fn raise(sums: &mut [i64; 80], place: usize, amount: i64, most: u64)
     requires place_in_bounds { place < 80 }
     requires most_value { most ≡ times_at most_benefit place * most_expected }
@@ -163,6 +165,7 @@ fn raise(sums: &mut [i64; 80], place: usize, amount: i64, most: u64)
 }
 
 // Adds an amount to a group's column, and the amount times a weight to the same of the weighted set.
+#[tactic(auto, unfolding(crate::specs::Sums::times_at))]
 pub(crate) fn raise_both(sums: &mut [i64; 80], group: u8, column: u8, amount: i64, weight: u8)
     requires le_group { 1 ≤ group }
     requires group_bound { group ≤ 5 }

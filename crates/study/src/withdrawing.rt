@@ -61,6 +61,7 @@ impl Study {
     }
 
     // The same with plain rates.
+    #[tactic(auto, using(crate::proofs::PreparedWithdrawing::plain_rates))]
     pub fn withdraw(self, claim: Claim, rates: &[u32]) -> Answer
         ensures { by_number result ≡ withdrawn self claim rates.now }
     {

@@ -15,7 +15,6 @@ use lib.IntN.{ℤ, pos, nat_abs, ◌*ℤ◌, *ℤ_comm, *ℤ-one, one}
 use mir.Syntax.{w64}
 use mir.Val.{to_z, of_z}
 use Rattle.basics.specs.Pick.{pick}
-use Rattle.basics.specs.Limits.{most_expected, most_benefit}
 use Rattle.basics.proofs.Tests.{tests, by}
 use Rattle.basics.proofs.Integers.{size-product}
 use Rattle.basics.proofs.Signed.{read_back, result-is}
@@ -97,15 +96,6 @@ module _ (s : List ℤ) (len : Shaped s) (n g column : ℕ) (amount : ℤ) (low 
       (λ v. at-else k h (λ (e : k ≡ place). omega tests) (λ (e : k ≡ place + 40). omega tests)))
       ∙ ap (guarded_sum k (at s k)) (sym (share-at n figure k h)))
 
--- the bound of each set
-first-most : (k : ℕ) → k < 40 → most_expected ≡ times_at most_benefit k * most_expected
-unfolding times_at
-first-most k h = rw (lt-ltb k 40 h) refl
-
-weighted-most : (k : ℕ) → 40 ≤ k → most_benefit * most_expected ≡ times_at most_benefit k * most_expected
-unfolding times_at
-weighted-most k h = rw (le-ltb k 40 h) refl
-
 -- an amount and its weighted one, read back from their bits
 weighted-size : (n : ℕ) (x : ℤ) → n ≤ 200 → nat_abs x ≤ 1000000000000000 → nat_abs (pos n *ℤ x) ≤ 200000000000000000
 weighted-size n x h g =
@@ -118,12 +108,6 @@ weighted-read n x h g = result-is ◌*ℤ◌ (pos n) x (omega arith) (omega arit
 weighted-bound : (n : ℕ) (x : ℤ) → n ≤ 200 → nat_abs x ≤ 1000000000000000
     → nat_abs (to_z w64 (of_z w64 (to_z w64 n *ℤ to_z w64 (of_z w64 x)))) ≤ 1000000000000000000
 weighted-bound n x h g = rw (weighted-read n x h g) (omega (arith, weighted-size n x h g))
-
-pub raise-requires-clause-most_value : goal.raise-requires-clause-most_value
-raise-requires-clause-most_value c = first-most _ (omega arith)
-
-pub raise-requires-2-clause-most_value : goal.raise-requires-2-clause-most_value
-raise-requires-2-clause-most_value c = weighted-most _ (omega arith)
 
 pub raise-requires-2-clause-amount_bound : goal.raise-requires-2-clause-amount_bound
 raise-requires-2-clause-amount_bound c = weighted-bound c.args.weight c.args.amount (omega arith) (omega arith)

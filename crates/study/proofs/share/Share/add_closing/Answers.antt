@@ -49,9 +49,6 @@ pub returns-then-category-eq0 : goal.returns-then-category-eq0
 returns-then-category-eq0 c =
     none-raised c.args.self.weight c.args.sums.now (closing_figure c.args.self.span) c.told-sums (no-closing c.args.self.span (omega arith))
 
-pub overflow_add-span : goal.overflow_add-span
-overflow_add-span c = let b = c.args.self.span_bounds in omega (arith, b.first_high, b.months_high)
-
 pub overflow_sub-span : goal.overflow_sub-span
 overflow_sub-span c = omega (arith, c.args.self.span_bounds.closing_months (omega arith))
 
