@@ -2,7 +2,7 @@
 -- Assumes nothing.
 use Prim.Native.Nat.{ℕ, zero, suc, ◌+◌, ◌-◌, ◌*◌, ◌<◌}
 use mathlib.Core.Path.{◌≡◌, refl, sym, ap, ◌∙◌}
-use mathlib.Core.Bool.{Bool, true, false, ◌&&◌, and-true, and-false, and_assoc}
+use mathlib.Core.Bool.{Bool, true, false, ◌&&◌, and-false, and_assoc}
 use mathlib.Core.List.{List}
 use native.Mathlib.Omega.{arith}
 use lib.ListN.{length}
@@ -11,8 +11,10 @@ use lib.Dec.{eqb}
 use lib.Bits.{bit_or, or_add_and, and_le_l, and_le_r}
 use borrow.Author.Tests.{eq-eqb, ne_eqb, eqb-false}
 use Rattle.std.specs.List.{range_with_len, list_all}
+use Rattle.basics.specs.Tables.{every_place}
 use Rattle.basics.proofs.Tests.{by, tests}
 use Rattle.claim_months.specs.declared.Claim.{Claim}
+use Rattle.study.proofs.InBounds.{every_in_range}
 use Rattle.claim_file.specs.Bytes.{byte_at, zero_from}
 use Rattle.claim_file.specs.Record.{claim_from, claim_bytes, record_padded}
 use Rattle.claim_file.specs.BlockAnswers.{has_record, record_in, record_after}
@@ -95,21 +97,10 @@ zero-step bytes from count i j all h k =
     ∙ ap (λ (t : Bool). t && rest) (or-zero all (byte_at bytes j))
 
 -- the claims of a block padded one after another
-padded_more : (bytes : List ℕ) (k n : ℕ)
-    → list_all (λ i. record_padded bytes (16 + 32 * i)) (range_with_len k (suc n))
-    ≡ (list_all (λ i. record_padded bytes (16 + 32 * i)) (range_with_len k n) && record_padded bytes (16 + 32 * (k + n)))
-padded_more bytes k zero = let e : k + 0 ≡ k = omega arith in rw (e, and-true (record_padded bytes (16 + 32 * k)))
-padded_more bytes k (suc n) =
-    let here = record_padded bytes (16 + 32 * k) in
-    let e : k + 1 + n ≡ k + suc n = omega arith in
-    ap (λ (t : Bool). here && t) (padded_more bytes (k + 1) n ∙ rw e)
-    ∙ sym (and_assoc here (list_all (λ i. record_padded bytes (16 + 32 * i)) (range_with_len (k + 1) n)) (record_padded bytes (16 + 32 * (k + suc n))))
+every-padded : (bytes : List ℕ) (n : ℕ) → every_place n (λ k. record_padded bytes (16 + 32 * k)) ≡ claims_padded bytes n
+unfolding every_place claims_padded
+every-padded bytes zero = refl
+every-padded bytes (suc n) = ap (λ (t : Bool). t && record_padded bytes (16 + 32 * n)) (every-padded bytes n)
 
-pub padded-all : (bytes : List ℕ) (n : ℕ) → list_all (λ i. record_padded bytes (16 + 32 * i)) (range_with_len 0 n) ≡ claims_padded bytes n
-unfolding claims_padded
-padded-all bytes zero = refl
-padded-all bytes (suc n) =
-    let e : 0 + n ≡ n = omega arith in
-    padded_more bytes 0 n
-    ∙ ap (λ (k : ℕ). list_all (λ i. record_padded bytes (16 + 32 * i)) (range_with_len 0 n) && record_padded bytes (16 + 32 * k)) e
-    ∙ ap (λ (t : Bool). t && record_padded bytes (16 + 32 * n)) (padded-all bytes n)
+pub padded-all : (bytes : List ℕ) (n : ℕ) → list_all (λ k. record_padded bytes (16 + 32 * k)) (range_with_len 0 n) ≡ claims_padded bytes n
+padded-all bytes n = every_in_range n (λ k. record_padded bytes (16 + 32 * k)) ∙ every-padded bytes n

@@ -7,29 +7,24 @@ use mathlib.Core.List.{List, ◌∷◌, ◌++◌, append_assoc}
 use native.Mathlib.Omega.{arith}
 use lib.Dec.{leb, eqb}
 use borrow.Author.Tests.{le-leb, leb-true, eq-eqb, ne_eqb, eqb-true}
-use lib.ListN.{length, take, drop, length-append, get_or-append}
+use lib.ListN.{length, take, drop, length-append}
 use lib.Seq.{sets, sets-eq}
 use Rattle.basics.specs.Pick.{pick}
 use Rattle.calendar.specs.declared.Date.{Date}
 use Rattle.claim_months.specs.declared.Claim.{Claim}
 use Rattle.claim_file.specs.declared.Block.{Block}
 use Rattle.claim_file.specs.BlockAnswers.{write_sound, write_check, bytes_after, window_after}
-use Rattle.claim_file.specs.Bytes.{byte_at, two, date_bytes, zeros}
+use Rattle.claim_file.specs.Bytes.{two, date_bytes, zeros}
 use Rattle.claim_file.specs.Record.{all_claim_bytes}
 use Rattle.claim_file.specs.Block.{check_of, sealed, window_bytes, bytes_of_block}
-use Rattle.claim_file.proofs.Changed.{check-sum-cong}
+use Rattle.claim_file.proofs.Sealed.{check-append}
 use Rattle.basics.proofs.Tests.{by}
 use Rattle.basics.proofs.Stores.{run}
 use Rattle.claim_file.proofs.ByteStores.{sets-all, length-zeros, length-all}
 
 -- the check goes by the first 510 bytes
 pub check-stored : (l bytes : List ℕ) → length l ≡ 512 → length bytes ≡ 510 → check_of (sets l 0 bytes) ≡ check_of bytes
-unfolding check_of byte_at
-check-stored l bytes h k =
-    let e = sets-eq bytes l 0 (omega arith) in
-    ap (λ (w : ℕ). w % 65521)
-    (check-sum-cong (sets l 0 bytes) bytes 510
-    (λ i b. ap (λ (r : List ℕ). byte_at r i) e ∙ get_or-append bytes (drop (0 + length bytes) l) 0 i (omega arith)))
+check-stored l bytes h k = ap check_of (sets-eq bytes l 0 (omega arith)) ∙ check-append bytes (drop (0 + length bytes) l) k
 
 seal : (l a b bytes : List ℕ) → length l ≡ 512 → length bytes ≡ 510 → a ≡ sets l 0 bytes → b ≡ sets a 510 (two (check_of a)) → b ≡ sealed bytes
 unfolding sealed
