@@ -13,13 +13,10 @@ use borrow.Author.Tests.{eqb-true, eq-eqb}
 use Rattle.basics.specs.Pick.{pick}
 use Rattle.basics.specs.Checks.{refuse_block, refuse_too_many_records}
 use Rattle.basics.proofs.Tests.{tests, by}
-use Rattle.calendar.specs.declared.Date.{Date}
-use Rattle.calendar.specs.Calendar.{is_date}
-use Rattle.calendar.proofs.Laws.{date-bounds, length_high}
 use Rattle.claim_months.specs.declared.Claim.{Claim}
 use Rattle.claim_months.specs.declared.Window.{Window}
-use Rattle.claim_months.specs.Windows.{window_sound, dates_window}
-use Rattle.claim_months.proofs.DateWindows.{dates-sound, both-dates}
+use Rattle.claim_months.specs.Windows.{window_sound}
+use Rattle.claim_months.proofs.DateWindows.{both-dates}
 use Rattle.claim_months.proofs.Parts.{parts-map, parts-every, every_map}
 use Rattle.study.specs.declared.Study.{Study}
 use Rattle.study.specs.Answers.{Answer}
@@ -29,16 +26,15 @@ use Rattle.study.proofs.Capacity.{Accepted}
 use Rattle.study.proofs.Built.{number_after, added-after, zero-accepted, fresh-built, study-same}
 use Rattle.study.proofs.Members.{front as to_front}
 use Rattle.study.proofs.Totals.{same-totals, built-total}
-use Rattle.study.proofs.Demand3.{opens-window}
 use Rattle.claim_file.specs.declared.WindowDates.{WindowDates}
 use Rattle.claim_file.specs.Runs.{CorrectedRun}
 use Rattle.claim_file.specs.Bytes.{date_from}
 use Rattle.claim_file.specs.Block.{block_sound, window_bytes}
 use Rattle.claim_file.specs.Run.{adding}
 use Rattle.claim_file.specs.Files.{Accepts, window_days}
-use Rattle.claim_file.specs.RoundTrip.{DateFits}
 use Rattle.claim_file.specs.Corrections.{PlacedClaim, records_of_blocks, claims_of, kept_claims, HasKeptStudy, sound_blocks, last_ones, records_added, corrected_run_with, corrected_of, SameCorrectedEnd, CorrectedDemand3}
 use Rattle.claim_file.proofs.BlockTrips.{window-sound, window-first, window-last}
+use Rattle.claim_file.proofs.Files.{date-fits, opens, sound-days}
 use Rattle.claim_file.proofs.Runs.{sound}
 use Rattle.claim_file.proofs.BlockZero.{first-date, sound-behind, records-behind, all-behind}
 use Rattle.claim_file.proofs.RunRecords.{window_answer}
@@ -100,13 +96,6 @@ module _ (rates : List ℕ) where
       (λ e z. adds-study w rs (c ∷ cs) z ∙ study-same w rates (claims_of rs ++ (c ∷ cs)) (c ∷ (claims_of rs ++ cs)) (to_front (claims_of rs) c cs))
       (λ e z. absurd (omega tests)) h
 
--- a date of the calendar fits the file's widths
-date-fits : (d : Date) → is_date d ≡ true → DateFits d
-date-fits d h =
-    let r = date-bounds d h in
-    let l = length_high d.year d.month in
-    record { year_fits = omega tests; month_fits = omega tests; day_fits = omega tests }
-
 module _ (rates rest : List ℕ) where
   abbrev count : ℕ
   count = length rest / 512
@@ -145,23 +134,34 @@ module _ (rates rest : List ℕ) where
     place-so : r.place ≡ p.place
     taken-so : r.study.taken ≡ length p.claims
     sums-so : r.study.sums ≡ (study_of (window_days w) rates p.claims).sums
+    study-so : p.refused ≡ 0 → r.study ≡ study_of (window_days w) rates p.claims
 
   follows-with : (w : WindowDates) (p : Course) → Follows w p (with_study rates (window_days w) p)
   unfolding study_of
-  follows-with w p = record { number-so = refl; block-so = refl; place-so = refl; taken-so = refl; sums-so = refl }
+  follows-with w p = record { number-so = refl; block-so = refl; place-so = refl; taken-so = refl; sums-so = refl; study-so = λ z. refl }
 
-  not_opened : (w : WindowDates) (number block : ℕ)
-      → Follows w (course [] number block 0) (record { study = fresh first_day_alone; refused = number; block = block; place = 0 })
+  abbrev not_opened : CorrectedRun
+  not_opened = record { study = fresh first_day_alone; refused = refuse_block; block = suc sound_count; place = 0 }
+
+  follows-unsound : (w : WindowDates) → Follows w unsound not_opened
   unfolding study_of fresh sum_over
-  not_opened w number block = record { number-so = refl; block-so = refl; place-so = refl; taken-so = refl; sums-so = refl }
+  follows-unsound w =
+      record { number-so = refl; block-so = refl; place-so = refl; taken-so = refl; sums-so = refl; study-so = λ z. absurd (omega tests) }
+
+  -- records that are all taken have the study of the claims kept
+  course-study : (w : Window) → course_behind.refused ≡ 0 → study_of w rates course_behind.claims ≡ study_of w rates (claims_of (last_ones records))
+  unfolding course_behind
+  course-study w =
+      let p = adds rates [] (last_ones records) in
+      let few = leb (length records) 60000 in
+      let Kept : Course → Type 0 = λ q. q.refused ≡ 0 → study_of w rates q.claims ≡ study_of w rates (claims_of (last_ones records)) in
+      by all_behind (λ t. Kept (pick t (pick few p too_many) unsound))
+      (λ e.
+      by few (λ t. Kept (pick t p too_many))
+      (λ u z. adds-study rates w (last_ones records) [] z ∙ ap (study_of w rates) (append-nil (claims_of (last_ones records)))) (λ u z. absurd (omega tests)))
+      (λ e z. absurd (omega tests))
 
   module _ (w : WindowDates) (ok : Accepts w) where
-    opens : (dates_window w.first w.last ≡ true) × ((opened w.first w.last).study ≡ fresh (window_days w))
-    opens = opens-window w.first w.last ok
-
-    sound-days : window_sound (window_days w).first.0 (window_days w).last.0 ≡ true
-    sound-days = dates-sound w.first w.last opens.0
-
     abbrev front : List ℕ
     front = window_bytes w.first w.last
 
@@ -172,7 +172,7 @@ module _ (rates rest : List ℕ) where
     -- the window of the file is that of block 0
     file-window : window_answer (front ++ rest) ≡ opened w.first w.last
     file-window =
-        let d = both-dates w.first w.last opens.0 in
+        let d = both-dates w.first w.last (opens rates w ok).0 in
         let t = take_at front rest 512 (sound 0 front front-sound).length-so in
         let at : (i : ℕ) → i + 3 ≤ 511 → date_from (front ++ rest) i ≡ date_from front i =
         λ i l. sym (first-date (front ++ rest) i (omega arith)) ∙ ap (λ (x : List ℕ). date_from x i) t in
@@ -181,14 +181,14 @@ module _ (rates rest : List ℕ) where
         λ i. opened (b i) (e i)
 
     window-study : (window_answer (front ++ rest)).study ≡ study_of (window_days w) rates []
-    window-study = ap (λ (a : Answer). a.study) file-window ∙ opens.1 ∙ fresh-built (window_days w) rates
+    window-study = ap (λ (a : Answer). a.study) file-window ∙ (opens rates w ok).1 ∙ fresh-built (window_days w) rates
 
     -- the run by its tests
     run_is : corrected_of rates rest w
         ≡ pick all_behind
         (pick (leb (length records) 60000) (records_added (adding rates) (study_of (window_days w) rates []) (last_ones records))
         (record { study = study_of (window_days w) rates []; refused = refuse_too_many_records; block = 0; place = 0 }))
-        (record { study = fresh first_day_alone; refused = refuse_block; block = suc sound_count; place = 0 })
+        not_opened
     unfolding corrected_of corrected_run_with
     run_is =
         let z : (window_answer (front ++ rest)).refused ≡ 0 = ap (λ (a : Answer). a.refused) file-window ∙ ok in
@@ -206,36 +206,22 @@ module _ (rates rest : List ℕ) where
         let p = adds rates [] (last_ones records) in
         let run = records_added (adding rates) (study_of (window_days w) rates []) (last_ones records) in
         let many-run = with_study rates (window_days w) too_many in
-        let bad-run : CorrectedRun = record { study = fresh first_day_alone; refused = refuse_block; block = suc sound_count; place = 0 } in
         let few = leb (length records) 60000 in
         subst⁻¹ (λ (r : CorrectedRun). Follows w course_behind r) run_is
-        (by all_behind (λ t. Follows w (pick t (pick few p too_many) unsound) (pick t (pick few run many-run) bad-run))
+        (by all_behind (λ t. Follows w (pick t (pick few p too_many) unsound) (pick t (pick few run many-run) not_opened))
         (λ e.
         by few (λ t. Follows w (pick t p too_many) (pick t run many-run))
-        (λ u. subst⁻¹ (λ (r : CorrectedRun). Follows w p r) (adds-so rates (window_days w) sound-days (last_ones records) [] tt) (follows-with w p))
+        (λ u. subst⁻¹ (λ (r : CorrectedRun). Follows w p r) (adds-so rates (window_days w) (sound-days rates w ok) (last_ones records) [] tt) (follows-with w p))
         (λ u. follows-with w too_many))
-        (λ e. not_opened w refuse_block (suc sound_count)))
+        (λ e. follows-unsound w))
 
     -- a run that is not refused has the study of the claims kept
     kept-study : HasKeptStudy rates rest w
     unfolding kept_claims
-    kept-study =
-        let run = records_added (adding rates) (study_of (window_days w) rates []) (last_ones records) in
-        let many-run = with_study rates (window_days w) too_many in
-        let bad-run : CorrectedRun = record { study = fresh first_day_alone; refused = refuse_block; block = suc sound_count; place = 0 } in
-        let few = leb (length records) 60000 in
-        let goal = study_of (window_days w) rates (claims_of (last_ones records)) in
-        let added-so = adds-so rates (window_days w) sound-days (last_ones records) [] tt in
-        subst⁻¹ (λ (r : CorrectedRun). r.refused ≡ 0 → r.study ≡ goal) run_is
-        (by all_behind (λ t. (pick t (pick few run many-run) bad-run).refused ≡ 0 → (pick t (pick few run many-run) bad-run).study ≡ goal)
-        (λ e.
-        by few (λ t. (pick t run many-run).refused ≡ 0 → (pick t run many-run).study ≡ goal)
-        (λ u z.
-        ap (λ (r : CorrectedRun). r.study) added-so
-        ∙ adds-study rates (window_days w) (last_ones records) [] (sym (ap (λ (r : CorrectedRun). r.refused) added-so) ∙ z)
-        ∙ ap (study_of (window_days w) rates) (append-nil (claims_of (last_ones records))))
-        (λ u z. absurd (omega tests)))
-        (λ e z. absurd (omega tests)))
+    kept-study z =
+        let f = run-follows in
+        let p = sym f.number-so ∙ z in
+        f.study-so p ∙ course-study (window_days w) p
 
 same_end : (rates rest : List ℕ) (v w : WindowDates) → Accepts v → Accepts w → SameCorrectedEnd (corrected_of rates rest v) (corrected_of rates rest w)
 same_end rates rest v w k ok =
@@ -257,7 +243,7 @@ corrected-demand-3 rates rest whole part parts ok ps =
     let g = run-follows rates rest whole ok in
     let t =
     built-total window_days (λ w. study_of (window_days w) rates cs) rates cs (course-accepted rates rest) whole part parts
-    (parts-map _ _ window_days (λ w k. sound-days rates rest w k) b e part parts ps) refl (every_map _ _ (λ w k. refl) part parts o) in
+    (parts-map _ _ window_days (λ w k. sound-days rates w k) b e part parts ps) refl (every_map _ _ (λ w k. refl) part parts o) in
     record {
       same_end = every_map _ _ (λ w k. same_end rates rest w whole k ok) part parts o;
       sums = same-totals _ _ _ _ part parts (every_map _ _ (λ w k. sym (run-follows rates rest w k).sums-so) part parts o) (sym g.sums-so) t;

@@ -200,13 +200,12 @@ module _ (rates : List ℕ) where
     block-plain : (p : Plain) (bytes : List ℕ) → Good p → block_fed (with_study p) (adding rates) bytes ≡ with_study (plain_block p bytes)
     unfolding block_fed begun plain_block stops with_study
     block-plain p bytes g =
+        let step : Answer → FileRun =
+        λ a. pick (eqb a.refused 0) (claims_from (with_study p) a.study (adding rates) bytes 0 (claim_count bytes)) (stops (with_study p) a.study a.refused 0) in
         rw (ne_eqb p.due 0 (λ q. omega (tests, g.behind)))
         (by (block_sound p.due bytes)
         (λ y.
-        pick (eqb (pick {A = Answer} y (record { refused = 0; study = study_of w rates p.claims }) (record { refused = 11; study = study_of w rates p.claims })).refused 0)
-        (claims_from (with_study p) (pick {A = Answer} y (record { refused = 0; study = study_of w rates p.claims }) (record { refused = 11; study = study_of w rates p.claims })).study (adding rates) bytes 0 (claim_count bytes))
-        (stops (with_study p) (pick {A = Answer} y (record { refused = 0; study = study_of w rates p.claims }) (record { refused = 11; study = study_of w rates p.claims })).study
-        (pick {A = Answer} y (record { refused = 0; study = study_of w rates p.claims }) (record { refused = 11; study = study_of w rates p.claims })).refused 0)
+        step (pick {A = Answer} y (record { refused = 0; study = study_of w rates p.claims }) (record { refused = 11; study = study_of w rates p.claims }))
         ≡ with_study (pick y (plain_claims p p.claims bytes 0 (claim_count bytes)) (stop p p.claims 11 0)))
         (λ q. claims-plain p bytes (claim_count bytes) 0 p.claims g.accepted) (λ q. refl))
 
@@ -252,7 +251,7 @@ abbrev pub first : Plain
 first = plain [] 1 0 0 0
 
 module _ (rates : List ℕ) (w : WindowDates) (ok : Accepts w) where
-  opens : (dates_window w.first w.last ≡ true) × ((opened w.first w.last).study ≡ fresh (window_days w))
+  pub opens : (dates_window w.first w.last ≡ true) × ((opened w.first w.last).study ≡ fresh (window_days w))
   opens = opens-window w.first w.last ok
 
   pub sound-days : window_sound (window_days w).first.0 (window_days w).last.0 ≡ true
