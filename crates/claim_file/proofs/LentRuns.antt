@@ -109,10 +109,10 @@ module _ (r : FileRun) (add : Adding) (bytes part : List ℕ) (p : part ≡ take
 -- a run that stops or goes on, with the sums so far
 module _ (r : LentRun) (from sums : List ℤ) (taken : ℕ) where
   pub stops-with : (refusal : Refusal) (place : ℕ)
-      → run_with (lent_stops r taken refusal place) sums ≡ stops (run_with r from) (lent_study r.window taken sums) (number_of refusal) place
+      → run_with (lent_stops r taken refusal place) sums ≡ stops (run_with r from) (lent_study r.window.window taken sums) (number_of refusal) place
   unfolding run_with lent_stops stops
   stops-with refusal place = refl
 
-  pub goes-on-with : run_with (lent_goes_on r taken) sums ≡ going_on (run_with r from) (lent_study r.window taken sums)
+  pub goes-on-with : run_with (lent_goes_on r taken) sums ≡ going_on (run_with r from) (lent_study r.window.window taken sums)
   unfolding run_with lent_goes_on going_on
   goes-on-with = refl

@@ -7,4 +7,4 @@ use Rattle.claim_file.specs.declared.LentRun.{LentRun}
 -- the run that it makes up with its sums
 unfoldable pub run_with : LentRun → List ℤ → FileRun
 run_with r sums =
-    record { study = lent_study r.window r.taken sums; due = r.due; refused = stop_number r.stop; block = stop_block r.stop; place = stop_place r.stop }
+    record { study = lent_study r.window.window r.taken sums; due = r.due; refused = stop_number r.stop; block = stop_block r.stop; place = stop_place r.stop }

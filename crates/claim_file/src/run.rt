@@ -15,6 +15,7 @@ use basics::limits::BLOCK_BYTES;
 use basics::refusal::Refusal;
 use calendar::Day;
 use claim_months::Window;
+use claim_months::windows::window_months;
 use rates::Kind;
 use study::Study;
 use study::adding::add_to;
@@ -39,7 +40,7 @@ impl LentRun {
             last: Day(0),
         };
         LentRun {
-            window,
+            window: window_months(window),
             taken: 0,
             due: 0,
             stop: None,
@@ -95,7 +96,7 @@ impl LentRun {
     {
         FileRun {
             study: Study {
-                window: self.window,
+                window: self.window.window,
                 taken: self.taken,
                 sums,
             },
@@ -119,7 +120,7 @@ fn begin(run: LentRun, bytes: &[u8], sums: &mut [i64; 80]) -> LentRun
     clear(sums);
     match claim_months::windows::window(date_at(bytes, 16), date_at(bytes, 20)) {
         Ok(window) => LentRun {
-            window,
+            window: window_months(window),
             taken: 0,
             due: run.due,
             stop: None,
@@ -178,7 +179,7 @@ impl FileRun {
         ensures { run_with result self.study.sums ≡ run_by_number self }
     {
         LentRun {
-            window: self.study.window,
+            window: window_months(self.study.window),
             taken: self.study.taken,
             due: self.due,
             stop: self.stop,

@@ -7,7 +7,7 @@ ghost use Rattle.claim_months.specs.Private.{closing_within, later_of, from_of, 
 
 use crate::check::checked;
 use crate::month::claim_month;
-use crate::windows::{is_sound, with_months};
+use crate::windows::{WindowMonths, window_months};
 use crate::{
     BeginMonth, CheckedClaim, Claim, ClaimClosing, ClaimMonth, ExposedMonths, MonthDay,
     MonthWindow, Span, Thirtieths, Window,
@@ -181,14 +181,20 @@ pub(crate) fn exposed_months(claim: CheckedClaim, window: MonthWindow) -> Expose
     ExposedMonths { span, begin }
 }
 
-// The span of a claim's months in a window, or the first check that fails.
+// The span of a claim's months in a window that was looked at, or the first check that fails.
+pub fn span_in(claim: Claim, window: WindowMonths) -> Result<Span, Refusal>
+    ensures { numbered result ≡ span_in claim window.window.first.0 window.window.last.0 }
+{
+    let Some(months) = window.months else {
+        return Err(Refusal::Window);
+    };
+    let sound = checked(claim)?;
+    Ok(exposed_months(sound, months).span)
+}
+
+// The same of any window.
 pub fn span(claim: Claim, window: Window) -> Result<Span, Refusal>
     ensures { numbered result ≡ span_in claim window.first.0 window.last.0 }
 {
-    if !is_sound(window) {
-        return Err(Refusal::Window);
-    }
-    let sound = checked(claim)?;
-    let span = exposed_months(sound, with_months(window)).span;
-    Ok(span)
+    span_in(claim, window_months(window))
 }

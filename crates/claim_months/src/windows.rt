@@ -1,5 +1,6 @@
 // Check 1, the window of two dates, and its months.
-ghost use Rattle.std.specs.Prelude.{◌≡◌, true, ◌≤◌};
+ghost use Rattle.std.specs.Prelude.{◌≡◌, true, ◌≤◌, Some, None};
+ghost use Rattle.basics.specs.Pick.{pick};
 ghost use Rattle.basics.specs.Refused.{numbered};
 ghost use Rattle.calendar.specs.Calendar.{last_day_number};
 ghost use Rattle.claim_months.specs.Windows.{window_sound, window_in};
@@ -8,6 +9,14 @@ ghost use Rattle.claim_months.specs.Private.{with_month, with_months};
 use crate::{MonthDay, MonthWindow, Window};
 use basics::refusal::Refusal;
 use calendar::{Date, Day};
+
+// A window with its months, if check 1 passes it: looked at once for many claims.
+#[derive(Clone, Copy)]
+pub struct WindowMonths {
+    pub window: Window,
+    pub(crate) months: Option<MonthWindow>,
+    ghost looked_at: { months ≡ pick (window_sound window.first.0 window.last.0) (Some (with_months window)) None },
+}
 
 // Check 1, of a window as two day numbers.
 #[tactic(auto, unfolding(crate::specs::Windows::window_sound))]
@@ -49,5 +58,21 @@ pub(crate) fn with_months(window: Window) -> MonthWindow
     MonthWindow {
         first: with_month(window.first),
         last: with_month(window.last),
+    }
+}
+
+// Any window looked at: with its months where it is sound.
+pub fn window_months(window: Window) -> WindowMonths
+    ensures { result.window ≡ window }
+{
+    if !is_sound(window) {
+        return WindowMonths {
+            window,
+            months: None,
+        };
+    }
+    WindowMonths {
+        window,
+        months: Some(with_months(window)),
     }
 }

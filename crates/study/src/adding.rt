@@ -11,8 +11,9 @@ use crate::sums::has_room;
 use crate::{Answer, Study};
 use basics::limits::{CELL_NUMBERS, MOST_CLAIMS};
 use basics::refusal::Refusal;
+use claim_months::Claim;
 use claim_months::weight::weight_of;
-use claim_months::{Claim, Window};
+use claim_months::windows::{WindowMonths, window_months};
 use rates::{Cell, Kind};
 
 // The checks 6 to 9, told whether the lent sums are within their bounds, and a sound claim's share added to them.
@@ -39,20 +40,21 @@ fn add_span(
     Ok(())
 }
 
-// Adds a claim to a study whose sums are lent, told whether they are within the bounds of refusal 9. A refusal leaves the sums as they were.
+// Adds a claim to a study whose window was looked at and whose sums are lent, told whether they are within the bounds of refusal 9. A refusal leaves
+// the sums as they were.
 pub fn add_to(
     kind: Kind,
     table: &[u32],
     claim: Claim,
-    window: Window,
+    window: WindowMonths,
     taken: u32,
     room: bool,
     sums: &mut [i64; 80],
 ) -> Result<(), Refusal>
-    ensures value { number_refused result ≡ (added_to_lent room kind table.now claim (lent_study window taken sums.old)).refused }
-    ensures sums_after { sums.new ≡ (added_to_lent room kind table.now claim (lent_study window taken sums.old)).study.sums }
+    ensures value { number_refused result ≡ (added_to_lent room kind table.now claim (lent_study window.window taken sums.old)).refused }
+    ensures sums_after { sums.new ≡ (added_to_lent room kind table.now claim (lent_study window.window taken sums.old)).study.sums }
 {
-    let span = claim_months::exposure::span(claim, window)?;
+    let span = claim_months::exposure::span_in(claim, window)?;
     let cell = claim.cell as u32;
     let weight = weight_of(claim);
     let share = Share { span, weight };
@@ -75,8 +77,9 @@ impl Study {
         ensures { by_number result ≡ added_with kind self claim table.now }
     {
         let mut sums = self.sums;
+        let window = window_months(self.window);
         let room = has_room(&sums);
-        if let Err(refusal) = add_to(kind, table, claim, self.window, self.taken, room, &mut sums) {
+        if let Err(refusal) = add_to(kind, table, claim, window, self.taken, room, &mut sums) {
             return self.refused(refusal);
         }
         Answer {

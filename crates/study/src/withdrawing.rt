@@ -13,6 +13,7 @@ use crate::{Answer, Study};
 use basics::limits::MOST_CLAIMS;
 use basics::refusal::Refusal;
 use claim_months::Claim;
+use claim_months::windows::window_months;
 use rates::Kind;
 
 // Whether no count falls below zero if a share is taken off.
@@ -44,7 +45,8 @@ impl Study {
         ensures { by_number result ≡ withdrawn_with kind self claim table.now }
     {
         let mut share = [0; 80];
-        if let Err(refusal) = add_to(kind, table, claim, self.window, 0, true, &mut share) {
+        let window = window_months(self.window);
+        if let Err(refusal) = add_to(kind, table, claim, window, 0, true, &mut share) {
             return self.refused(refusal);
         }
         if let Err(refusal) = last_checks(self.taken, &self.sums, &share) {

@@ -8,6 +8,7 @@ use Prim.Native.Nat.{ℕ}
 use Rattle.std.specs.Prelude.{None}
 use Rattle.basics.specs.declared.refusal.Refusal.TheVariants.{Block}
 use Rattle.basics.specs.Refused.{number_of}
+use Rattle.claim_months.specs.declared.Window.{Window}
 use Rattle.claim_months.specs.Windows.{window_in}
 use Rattle.study.specs.Study.{fresh, first_day_alone}
 use Rattle.study.specs.Sums.{none}
@@ -54,7 +55,8 @@ returns-in-Ok c =
     let sound-so : block_sound c.args.run.due c.args.bytes.now ≡ true = sym c.is_sound.ensures ∙ c.if-not-is_sound.false in
     let none-so : c.args.run.stop ≡ None = no-stop c.args.run.stop c.requires in
     let w = c.in-Ok in
-    ap (run_with (record { window = w.window; taken = 0; due = c.args.run.due; stop = None })) c.clear.ensures
+    ap (run_with (record { window = c.window_months.result; taken = 0; due = c.args.run.due; stop = None })) c.clear.ensures
+    ∙ ap (λ (x : Window). record { study = fresh x; due = c.args.run.due; refused = 0; block = 0; place = 0 }) c.window_months.ensures
     ∙ begun-window run_of c.args.bytes.now sound-so c.if-run-ne0.false (ap stop_block none-so) (ap stop_place none-so) w.window (w.ensures ∙ ap₂ window_in c.date_at.ensures c.date_at-2.ensures)
 
 pub returns-in-Err : goal.returns-in-Err

@@ -77,8 +77,8 @@ module _ (c : Else-is_some-2) where
   -- feeding the rest of the file is adding the claims left of the block, and then feeding what is behind it
   left-so : (taken : ℕ) (sums : List ℤ) (place : ℕ)
       → claims_from begun begun.study add part 0 (claim_count part)
-      ≡ claims_from begun (lent_study c.begin-run.result.window taken sums) add part place (claim_count part - place)
-      → fed run add rest ≡ fed (claims_from begun (lent_study c.begin-run.result.window taken sums) add part place (claim_count part - place)) add (drop 512 rest)
+      ≡ claims_from begun (lent_study c.begin-run.result.window.window taken sums) add part place (claim_count part - place)
+      → fed run add rest ≡ fed (claims_from begun (lent_study c.begin-run.result.window.window taken sums) add part place (claim_count part - place)) add (drop 512 rest)
   unfolding run_with
   left-so taken sums place e =
       let d = length-drop c.file.at c.args.bytes.now in
@@ -88,7 +88,7 @@ module _ (c : Else-is_some-2) where
 -- a claim that was handed to the sums: the study so far, the answer, and the sums afterwards
 module _ (c : After-add_to) where
   abbrev so_far : Study
-  so_far = lent_study c.begin-run.result.window c.loop-place.taken c.loop-place.sums
+  so_far = lent_study c.begin-run.result.window.window c.loop-place.taken c.loop-place.sums
 
   abbrev after : List ℤ
   after = c.add_to.new.sums
@@ -189,8 +189,8 @@ returns-in-Err c =
     let h : number m ≡ 0 → ⊥ = λ e. absurd (omega (arith, e, is-so, numbered-from-1 refusal)) in
     ap (λ (r : LentRun). run_with r (after m)) (c.stopped-run.ensures ∙ ap (λ (r : LentRun). lent_stops r l.taken refusal (l.place + 1)) l.invariant.0)
     ∙ stops-with c.begin-run.result c.begin-run.new.sums (after m) l.taken refusal (l.place + 1)
-    ∙ ap (λ (x : List ℤ). stops (begun b) (lent_study c.begin-run.result.window l.taken x) n (l.place + 1)) (kept-so m h)
-    ∙ ap (λ (k : ℕ). stops (begun b) (lent_study c.begin-run.result.window l.taken l.sums) k (l.place + 1)) (sym is-so)
+    ∙ ap (λ (x : List ℤ). stops (begun b) (lent_study c.begin-run.result.window.window l.taken x) n (l.place + 1)) (kept-so m h)
+    ∙ ap (λ (k : ℕ). stops (begun b) (lent_study c.begin-run.result.window.window l.taken l.sums) k (l.place + 1)) (sym is-so)
     ∙ sym
     (c.file.invariant.2
     ∙ left-so b l.taken l.sums l.place l.invariant.3
@@ -216,7 +216,7 @@ file-preserved c =
       c.file.invariant.2
           ∙ left-so b l.taken l.sums l.place l.invariant.3
           ∙ ap (λ (r : FileRun). fed r (add b) (drop 512 (rest b)))
-          (claims-end _ (lent_study c.begin-run.result.window l.taken l.sums) _ _ _ _ (omega arith)
+          (claims-end _ (lent_study c.begin-run.result.window.window l.taken l.sums) _ _ _ _ (omega arith)
           ∙ sym (ap (λ (r : LentRun). run_with r l.sums) on ∙ goes-on-with c.begin-run.result c.begin-run.new.sums l.sums l.taken))
           ∙ ap (fed (run_with c.continued-run.result l.sums) (add b)) (rest-is c.args.bytes.now c.file.at c.block_end-end.result c.file.invariant.0 e),
     )

@@ -12,8 +12,8 @@ use Rattle.claim_file.proofs.run.feed_lent.Given as goal
 abbrev pub invariant-loop-place : goal.invariant-loop-place
 invariant-loop-place l =
     (l.run ≡ l.initial.run) × (l.place ≤ l.count) × (l.spare ≡ true → room_for (15 - l.place) l.sums ≡ true)
-    × (claims_from (run_with l.initial.run l.initial.sums) (lent_study l.window l.initial.taken l.initial.sums) (adding_with l.kind l.table) l.part 0 l.count
-    ≡ claims_from (run_with l.initial.run l.initial.sums) (lent_study l.window l.taken l.sums) (adding_with l.kind l.table) l.part l.place (l.count - l.place))
+    × (claims_from (run_with l.initial.run l.initial.sums) (lent_study l.window.window l.initial.taken l.initial.sums) (adding_with l.kind l.table) l.part 0 l.count
+    ≡ claims_from (run_with l.initial.run l.initial.sums) (lent_study l.window.window l.taken l.sums) (adding_with l.kind l.table) l.part l.place (l.count - l.place))
 
 abbrev pub decreases-loop-place : goal.decreases-loop-place
 decreases-loop-place l = l.count - l.place
