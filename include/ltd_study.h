@@ -3,6 +3,7 @@
      the study of a whole claim file     ltd_file_study; where later records correct earlier ones, ltd_corrected_study;
                                          many files with one table, ltd_prepare once, then ltd_prepared_file_study and
                                          ltd_prepared_corrected_study
+     the sums of each month of duration  ltd_durations; with a prepared table, ltd_prepared_durations
      a study claim by claim              ltd_open, ltd_add; a claim taken back, ltd_withdraw; studies of one window joined, ltd_join;
                                          with a prepared table, ltd_prepared_add and ltd_prepared_withdraw
      one claim's months                  ltd_listing
@@ -149,6 +150,17 @@ uint8_t ltd_corrected_study(const uint8_t *file, size_t file_len, const uint32_t
    a prepared one. 255 if out is shorter than 86. */
 uint8_t ltd_prepared_corrected_study(const uint8_t *file, size_t file_len, const uint32_t *table, size_t table_len, int64_t *out,
                                      size_t out_len);
+
+/* The sums of each month of duration of a whole claim file, by count. Runs the file as ltd_file_study does and answers the same number. out
+   has 4 + 8 x n numbers, n from 1 to 2,000: number, block, claim place, claims taken; then for d = 1 to n the eight numbers that a group of a
+   study has: thirtieths, five closing counts, expected recoveries, expected deaths, over the month records of duration d; the last row has
+   n and all later durations. A refused run gives the rows of the claims taken so far; where no study was opened they are zeros. Sums are
+   modulo 2^64, which no sum reaches with rates that pass check 8. 255, nothing written, if out has another length. */
+uint8_t ltd_durations(const uint8_t *file, size_t file_len, const uint32_t *rates, size_t rates_len, int64_t *out, size_t out_len);
+
+/* The same with a prepared table: as ltd_durations with the rates that were prepared, and faster. Refusal 6 says that the table is not a
+   prepared one. 255, nothing written, if out has another length. */
+uint8_t ltd_prepared_durations(const uint8_t *file, size_t file_len, const uint32_t *table, size_t table_len, int64_t *out, size_t out_len);
 
 /* z, m and T of a group into out (3 numbers), T without any ceiling. Answers 0, or 12 with out untouched. 255 if out is shorter than 3. */
 uint8_t ltd_factor(uint8_t group, uint32_t terminations, int64_t expected, uint64_t *out, size_t out_len);

@@ -1,6 +1,7 @@
 -- `CallChains`: a list stands for its study, and calls on lists do what calls on studies do. `StudyCalls`: calls with a prepared table.
--- `CorrectedStored`: runs with corrections and a prepared table. `CallsAddUp`: demand 3 of the calls. `CallMoves`: moves and pools by the calls.
--- `BlockCalls`: blocks written and read back by the calls. `PartsAlong`: parts that are read off others. The other modules have what the proofs of the calls cite. `ClaimAnswers`: which tests lead to which
+-- `CorrectedStored`, `DurationsStored`: runs with corrections and rows of durations, and a prepared table. `CallsAddUp`: demand 3 of the calls.
+-- `CallMoves`: moves and pools by the calls. `BlockCalls`: blocks written and read back by the calls.
+-- `PartsAlong`: parts that are read off others. The other modules have what the proofs of the calls cite. `ClaimAnswers`: which tests lead to which
 -- answer of `ltd_add` and `ltd_withdraw`. `JoinAnswers`: of `ltd_join`. `Copies`: a list copied over a part of another.
 pub mod StudyCalls
 pub mod CallChains
@@ -8,6 +9,7 @@ pub mod CallsAddUp
 pub mod CallMoves
 pub mod CorrectedStored
 pub mod BlockCalls
+pub mod DurationsStored
 mod PartsAlong
 mod ClaimAnswers
 mod JoinAnswers

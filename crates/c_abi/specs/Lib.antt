@@ -9,4 +9,5 @@ pub mod CompanyCalls
 pub mod LoadCalls
 pub mod BlockCalls
 pub mod CorrectedCalls
+pub mod DurationCalls
 pub mod Version

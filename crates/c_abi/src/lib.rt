@@ -6,6 +6,7 @@ mod answers;
 mod block;
 mod companies;
 mod corrected;
+mod durations;
 mod factors;
 mod listing;
 mod loads;

@@ -76,10 +76,8 @@ mod c {
             out_len: usize,
         ) -> u8;
 
-        #[cfg(feature = "first_durations")]
         pub fn ltd_durations(file: *const u8, file_len: usize, rates: *const u32, rates_len: usize, out: *mut i64, out_len: usize) -> u8;
 
-        #[cfg(feature = "first_durations")]
         pub fn ltd_prepared_durations(
             file: *const u8,
             file_len: usize,
@@ -233,13 +231,11 @@ pub fn prepared_corrected_study(file: &[u8], table: &[u32], out: &mut [i64]) -> 
 }
 
 /// The sums of each duration of a whole claim file into `out` (4 numbers and 8 for each of its rows).
-#[cfg(feature = "first_durations")]
 pub fn durations(file: &[u8], rates: &[u32], out: &mut [i64]) -> u8 {
     unsafe { c::ltd_durations(head(file), file.len(), head(rates), rates.len(), head_mut(out), out.len()) }
 }
 
 /// As `durations`, with a prepared table.
-#[cfg(feature = "first_durations")]
 pub fn prepared_durations(file: &[u8], table: &[u32], out: &mut [i64]) -> u8 {
     unsafe { c::ltd_prepared_durations(head(file), file.len(), head(table), table.len(), head_mut(out), out.len()) }
 }

@@ -2,15 +2,13 @@
 //! sound and damaged. A mismatch prints the whole input and ends its test; the last line counts the tests.
 //!
 //! Run: LTD_LIB_DIR=(the directory of libc_file.a and libc_abi.a) cargo run --release --features first --bin compare [-- TEXT]
-//! With TEXT only the tests run whose name has it. The feature first_durations adds the tests of the calls that the libraries must then
-//! have: sums by duration.
+//! With TEXT only the tests run whose name has it.
 
 mod benefits;
 mod blocks;
 mod cells;
 mod codes;
 mod corrections;
-#[cfg(feature = "first_durations")]
 mod durations;
 mod faults;
 mod figures;
@@ -82,7 +80,6 @@ const SUBJECTS: &[&[Test]] = &[
     version::TESTS,
     prepared_studies::TESTS,
     prepared_corrections::TESTS,
-    #[cfg(feature = "first_durations")]
     durations::TESTS,
 ];
 
