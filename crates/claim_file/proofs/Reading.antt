@@ -12,7 +12,7 @@ use lib.Dec.{leb, eqb}
 use borrow.Author.Tests.{ne_eqb, le-leb, lt-leb, eqb-true, eqb-false}
 use Rattle.basics.specs.Pick.{pick}
 use Rattle.basics.specs.Checks.{refuse_block}
-use Rattle.basics.proofs.Tests.{by, tests, and_right}
+use Rattle.basics.proofs.Tests.{by, and_right}
 use Rattle.claim_months.specs.declared.Claim.{Claim}
 use Rattle.claim_file.specs.BlockAnswers.{BlockRead}
 use Rattle.claim_file.specs.Bytes.{date_from}
@@ -31,12 +31,6 @@ placed bytes n k = pick (leb (suc k) n) (block_claim bytes k) no_claim
 abbrev pub Placed : List ℕ → ℕ → List Claim → Type 0
 Placed bytes n claims = (length claims ≡ 15) × ((k : ℕ) → k < 15 → get_or claims k no_claim ≡ placed bytes n k)
 
-leb-same : (a b c d : ℕ) → (a ≤ b → c ≤ d) → (c ≤ d → a ≤ b) → leb a b ≡ leb c d
-leb-same a b c d f g =
-    by (leb a b) (λ t. t ≡ leb c d)
-    (λ e. let h : a ≤ b = omega tests in sym (le-leb c d (f h)))
-    (λ e. by (leb c d) (λ t. false ≡ t) (λ q. let k = g (omega tests) in absurd (omega tests)) (λ q. refl))
-
 pub placed-none : (bytes : List ℕ) (c : Claim) → c ≡ no_claim → Placed bytes 0 (replicate 15 c)
 placed-none bytes c e = (
   refl,
@@ -44,26 +38,6 @@ placed-none bytes c e = (
       ap (λ (d : Claim). get_or (replicate 15 d) k no_claim) e
       ∙ get_or-replicate 15 k no_claim no_claim h
       ∙ sym (ap (λ (t : Bool). pick t (block_claim bytes k) no_claim) (lt-leb (suc k) 0 (omega arith))),
-)
-
-pub placed-more : (bytes : List ℕ) (n : ℕ) (claims : List Claim) (c : Claim) → n < 15 → c ≡ block_claim bytes n → Placed bytes n claims
-    → Placed bytes (n + 1) (set claims n c)
-placed-more bytes n claims c h v p = (
-  length-set claims n c ∙ p.0,
-  λ k l.
-      by (eqb k n) (λ _. get_or (set claims n c) k no_claim ≡ placed bytes (n + 1) k)
-      (λ e.
-      let q : k ≡ n = eqb-true k n e in
-      ap (λ (j : ℕ). get_or (set claims n c) j no_claim) q
-      ∙ get_or-set_same claims n c no_claim (omega arith)
-      ∙ v
-      ∙ sym (ap (block_claim bytes) q)
-      ∙ sym (ap (λ (t : Bool). pick t (block_claim bytes k) no_claim) (le-leb (suc k) (n + 1) (omega arith))))
-      (λ e.
-      let q : k ≡ n → ⊥ = eqb-false k n e in
-      get_or-set_other claims n k c no_claim q
-      ∙ p.1 k l
-      ∙ ap (λ (t : Bool). pick t (block_claim bytes k) no_claim) (leb-same (suc k) n (suc k) (n + 1) (λ a. omega arith) (λ a. omega arith))),
 )
 
 pub length-in : (bytes : List ℕ) (k n : ℕ) → length (claims_in bytes k n) ≡ n

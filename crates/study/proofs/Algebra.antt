@@ -4,9 +4,7 @@ use Prim.Native.Nat.{ℕ, ◌<◌}
 use mathlib.Core.Path.{◌≡◌, sym, ap, ◌∙◌}
 use mathlib.Core.List.{List}
 use lib.ListN.{length, get_or}
-use lib.Seq.{ext_get_or}
 use lib.IntN.{ℤ, pos, ◌+ℤ◌, ◌-ℤ◌, ◌*ℤ◌, +ℤ_assoc, +ℤ_comm, +ℤ_idl}
-use Rattle.basics.proofs.Tests.{tests}
 use Rattle.basics.proofs.Integers.{plus-minus}
 use Rattle.basics.proofs.Tables.{table-length, table_at, table_same, list-table}
 use Rattle.study.specs.Sums.{times_at, each, none, plus, minus, times}
@@ -48,10 +46,6 @@ times-shaped n a = table-length 80 _
 pub times-at : (n : ℕ) (a : List ℤ) (k : ℕ) → k < 80 → at (times n a) k ≡ pos (times_at n k) *ℤ at a k
 unfolding times
 times-at n a k h = table_at 80 _ k (pos 0) h
-
--- sums with the same number at every place are the same
-pub same-sums : (a b : List ℤ) → Shaped a → Shaped b → ((k : ℕ) → k < 80 → at a k ≡ at b k) → a ≡ b
-same-sums a b p q h = ext_get_or (pos 0) a b (p ∙ sym q) (λ k l. h k (omega (tests, p)))
 
 -- a law of the operations is a law of the sums
 pub plus_comm : (a b : List ℤ) → plus a b ≡ plus b a

@@ -3,9 +3,9 @@
 use Prim.Native.Nat.{ℕ, ◌+◌, ◌-◌, ◌*◌, ◌≤◌, ◌<◌}
 use mathlib.Core.Path.{◌≡◌, refl}
 use native.Mathlib.Nat.{zero-mul, mul-le-mul}
-use mathlib.Core.Bool.{Bool, true, false, ◌&&◌}
-use lib.Dec.{leb, ltb, eqb}
-use borrow.Author.Tests.{le-leb, lt-leb, lt-ltb, le-ltb, eq-eqb, ne_eqb}
+use mathlib.Core.Bool.{Bool, true, false}
+use lib.Dec.{ltb, eqb}
+use borrow.Author.Tests.{le-leb, lt-ltb, le-ltb, eq-eqb, ne_eqb}
 use Rattle.basics.specs.Pick.{pick}
 use Rattle.basics.proofs.Tests.{tests, by}
 use Rattle.rates.proofs.Laws.{group-low, group-high}
@@ -30,15 +30,10 @@ group-times n g x h =
 
 pub ruleset group_bounds = (group-times, mul-le-mul)
 
--- the columns 1 to 5 have counts, and no others
+-- the columns 1 to 5 have counts
 pub a-count : (column : ℕ) → 1 ≤ column → column ≤ 5 → is_count column ≡ true
 unfolding is_count
 a-count column low high = rw (le-leb 1 column low, le-leb column 5 high) refl
-
-pub no-count : (column : ℕ) → (1 ≤ column → 5 < column) → is_count column ≡ false
-unfolding is_count
-no-count column h =
-    by (leb 1 column) (λ t. (t && leb column 5) ≡ false) (λ q. rw (lt-leb column 5 (h (omega tests))) refl) (λ q. refl)
 
 -- the kinds of columns: counts, thirtieths, expected recoveries, expected deaths
 pub by_column : (column : ℕ) (P : Bool → Bool → Bool → Type 0) → ((t u : Bool) → P true t u) → ((u : Bool) → P false true u) → P false false true
