@@ -82,3 +82,15 @@ unfolding window_block
 window-block bytes h =
     let t = simp and-eq-true_iff at h in
     record { framed-so = t.0.0; length-so = framed-length 0 bytes t.0.0; count_so = eqb-true _ _ t.0.1; rest-so = t.1 }
+
+pub claim_block-length : (due : ℕ) (bytes : List ℕ) → claim_block due bytes ≡ true → length bytes ≡ 512
+claim_block-length due bytes h = (claim-block due bytes h).length-so
+
+pub window_block-length : (bytes : List ℕ) → window_block bytes ≡ true → length bytes ≡ 512
+window_block-length bytes h = (window-block bytes h).length-so
+
+pub claim_high : (due : ℕ) (bytes : List ℕ) → claim_block due bytes ≡ true → claim_count bytes ≤ 15
+claim_high due bytes h = (claim-block due bytes h).count_so
+
+-- a sound block has 512 bytes, and up to 15 claims
+pub ruleset block_size = (framed-length, claim_block-length, window_block-length, claim_high)

@@ -120,3 +120,9 @@ module _ (bytes : List ℕ) (at rows : ℕ) (sums byRow : List ℕ) (some : 0 < 
           sums-low = plus-low (255 * (16 - rows)) 255 (255 * (16 - (rows - 1))) sums row c.sums-low low (omega arith);
           by-row-low = plus-low (4080 * (16 - rows)) (255 * (16 - rows)) (4080 * (16 - (rows - 1))) byRow sums c.by-row-low c.sums-low (omega arith);
         }
+
+-- a column adds at most 16 × 65,280 + 272 × 4,080
+pub column-low : (w s r : ℕ) → w ≤ 272 → s ≤ 4080 → r ≤ 65280 → 16 * r + w * s ≤ 2154240
+column-low w s r h l q = omega (arith, mul-le-mul h l)
+
+pub ruleset column_low = (column-low, at-most-at)

@@ -13,15 +13,13 @@ use borrow.Author.Tests.{eq-eqb, ne_eqb, lt-ltb, lt-leb, eqb-true, eqb-false, lt
 use Rattle.basics.specs.Pick.{pick}
 use Rattle.basics.specs.Checks.{refuse_too_many_records}
 use Rattle.basics.proofs.Tests.{by}
-use Rattle.claim_months.specs.declared.Claim.{Claim}
 use Rattle.study.specs.declared.Study.{Study}
-use Rattle.study.specs.Answers.{Answer}
 use Rattle.claim_file.specs.Runs.{CorrectedRun}
 use Rattle.claim_file.specs.Bytes.{byte_at}
 use Rattle.claim_file.specs.Block.{block_claim, block_sound}
 use Rattle.claim_file.specs.Run.{Adding}
 use Rattle.claim_file.specs.Corrections.{PlacedClaim, records_of_block, records_of_blocks, file_records, sound_blocks, sound_all, has_number, last_ones, records_added, corrected_run_with}
-use Rattle.claim_file.specs.Marks.{numbers_of, among, superseded, marked, MarksSuperseded, unless_superseded, unsound_at}
+use Rattle.claim_file.specs.Marks.{numbers_of, among, superseded, marked, MarksSuperseded, unsound_at}
 use Rattle.claim_file.proofs.Runs.{sound, sound-due}
 use Rattle.claim_file.proofs.BlockZero.{sound-first, sound-file, file-records}
 use Rattle.claim_file.proofs.RunRecords.{window_answer}
@@ -252,25 +250,6 @@ block-done bytes block b place count h =
 pub file-done : (bytes : List ℕ) (b : ℕ) → length bytes / 512 ≤ b → later_records bytes b ≡ []
 unfolding records_of_blocks
 file-done bytes b h = let p : length bytes / 512 - b ≡ 0 = omega arith in ap (records_from bytes b) p
-
--- One record added, unless it is superseded
-module _ (add : Adding) (c : Claim) (b place : ℕ) (t : Bool) (s : Study) where
-  pub none-added : t ≡ true → go s ≡ records_added add s (unless_superseded t c b place)
-  unfolding records_added unless_superseded
-  none-added e = sym (rw e refl)
-
-  module _ (e : t ≡ false) (a : Answer) (p : a ≡ add s c) where
-    one-so : records_added add s (unless_superseded t c b place)
-        ≡ pick (eqb a.refused 0) (go a.study) (record { study = a.study; refused = a.refused; block = b; place = place })
-    unfolding records_added unless_superseded
-    one-so = rw (e, p) refl
-
-    pub one-added : a.refused ≡ 0 → go a.study ≡ records_added add s (unless_superseded t c b place)
-    one-added h = sym (one-so ∙ rw (eq-eqb a.refused 0 h) refl)
-
-    pub one-refused : (a.refused ≡ 0 → ⊥)
-        → record { study = a.study; refused = a.refused; block = b; place = place } ≡ records_added add s (unless_superseded t c b place)
-    one-refused h = sym (one-so ∙ rw (ne_eqb a.refused 0 h) refl)
 
 -- What a run answers behind each check
 module _ (add : Adding) (bytes : List ℕ) where

@@ -3,7 +3,7 @@
 -- Assumes nothing.
 use Prim.Native.Nat.{ℕ, zero, suc, ◌+◌, ◌/◌, ◌%◌, ◌≤◌}
 use mathlib.Core.Path.{◌≡◌, refl, sym, ap, ◌∙◌}
-use mathlib.Core.Bool.{true, ◌&&◌, and-false, and-eq-true_iff}
+use mathlib.Core.Bool.{true, ◌&&◌, and-false}
 use mathlib.Core.List.{List, [], ◌∷◌, ◌++◌}
 use lib.ListN.{length, take, drop}
 use lib.Seq.{take_all}
@@ -28,10 +28,11 @@ use Rattle.study.proofs.Totals.{built-total}
 use Rattle.study.proofs.Demand3.{opens-window}
 use Rattle.claim_file.specs.declared.WindowDates.{WindowDates}
 use Rattle.claim_file.specs.Runs.{FileRun}
-use Rattle.claim_file.specs.Block.{block_claim, claim_count, framed, window_block, block_sound, window_bytes}
+use Rattle.claim_file.specs.Block.{block_claim, claim_count, block_sound, window_bytes}
 use Rattle.claim_file.specs.Run.{adding, started, begun, going_on, stops, claims_from, block_fed, blocks_fed, part_fed, fed, ended, file_run_with}
 use Rattle.claim_file.specs.Files.{run_of, claims_of_block, claims_of_blocks, file_claims, Accepts, window_days, SameEnd, HasStudy, FilesDemand3}
 use Rattle.claim_file.specs.RoundTrip.{DateFits}
+use Rattle.claim_file.proofs.BlockTests.{window_block-length}
 use Rattle.claim_file.proofs.BlockTrips.{window-sound, window-first, window-last}
 use Rattle.claim_file.proofs.Runs.{sound}
 use Rattle.claim_file.proofs.Feeding.{fed-in-pieces}
@@ -241,10 +242,7 @@ date-fits d h =
     record { year_fits = omega tests; month_fits = omega tests; day_fits = omega tests }
 
 pub window-length : (b e : Date) → length (window_bytes b e) ≡ 512
-unfolding window_block framed
-window-length b e =
-    let t = simp and-eq-true_iff at (window-sound b e) in
-    omega tests
+window-length b e = window_block-length (window_bytes b e) (window-sound b e)
 
 -- what block 0 of an accepted window leaves: a fresh study, and block 1 due
 abbrev pub first : Plain

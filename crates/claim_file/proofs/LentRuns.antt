@@ -7,12 +7,11 @@ use mathlib.Core.List.{List}
 use lib.ListN.{length, take, drop}
 use lib.Dec.{eqb}
 use lib.IntN.{ℤ}
-use borrow.Author.Tests.{eq-eqb, ne_eqb, eqb-true, eqb-false}
+use borrow.Author.Tests.{eq-eqb, eqb-true, eqb-false}
 use Rattle.basics.specs.Pick.{pick}
 use Rattle.basics.specs.declared.refusal.Refusal.{Refusal}
 use Rattle.basics.specs.Refused.{number_of}
 use Rattle.basics.proofs.Tests.{by}
-use Rattle.claim_months.specs.declared.Window.{Window}
 use Rattle.claim_months.specs.Windows.{window_in}
 use Rattle.claim_months.proofs.DateWindows.{window-refused}
 use Rattle.study.specs.Answers.{Answer}
@@ -26,27 +25,13 @@ use Rattle.claim_file.specs.Run.{Adding, begun, going_on, stops, claims_from, bl
 use Rattle.claim_file.specs.LentRuns.{run_with}
 use Rattle.claim_file.specs.Private.{block_begun, lent_stops, lent_goes_on}
 use Rattle.claim_file.proofs.Runs.{begun-sound, claims-due, fed-refused, fed-turn}
-use Rattle.std.specs.Prelude.{Err, Ok}
+use Rattle.std.specs.Prelude.{Err}
 
--- what begins a block: nothing if it is not sound, the run as it is at a later block, and the window of block 0 or its refusal
-module _ (r : FileRun) (bytes : List ℕ) where
-  pub begun-not : block_sound r.due bytes ≡ false → stops r r.study 11 0 ≡ block_begun r bytes
-  unfolding block_begun begun
-  begun-not e = rw e
-
-  module _ (e : block_sound r.due bytes ≡ true) where
-    pub begun-later : r.refused ≡ 0 → (r.due ≡ 0 → ⊥) → r ≡ block_begun r bytes
-    unfolding block_begun begun
-    begun-later u h = rw (e, ne_eqb _ _ h) (λ i. record { study = r.study; due = r.due; refused = u i; block = r.block; place = r.place })
-
-    pub begun-window : r.due ≡ 0 → r.block ≡ 0 → r.place ≡ 0 → (w : Window) → Ok w ≡ window_in (date_from bytes 16) (date_from bytes 20)
-        → record { study = fresh w; due = r.due; refused = 0; block = 0; place = 0 } ≡ block_begun r bytes
-    unfolding block_begun begun opened opened_with
-    begun-window z b p w k = rw (e, eq-eqb _ _ z, ← k, b, p)
-
-    pub begun-no-window : r.due ≡ 0 → (n : ℕ) → Err n ≡ window_in (date_from bytes 16) (date_from bytes 20) → stops r (fresh first_day_alone) n 0 ≡ block_begun r bytes
-    unfolding block_begun begun opened opened_with
-    begun-no-window z n k = rw (e, eq-eqb _ _ z, ← k, (window-refused _ _ n k).1)
+-- what begins block 0 where its window is refused
+pub begun-no-window : (r : FileRun) (bytes : List ℕ) → block_sound r.due bytes ≡ true → r.due ≡ 0 → (n : ℕ)
+    → Err n ≡ window_in (date_from bytes 16) (date_from bytes 20) → stops r (fresh first_day_alone) n 0 ≡ block_begun r bytes
+unfolding block_begun begun opened opened_with
+begun-no-window r bytes e z n k = rw (e, eq-eqb _ _ z, ← k, (window-refused _ _ n k).1)
 
 -- a block begun by an answer, as the test of the number refused comes out
 abbrev begins : FileRun → Answer → Bool → FileRun

@@ -62,10 +62,6 @@ placed-all bytes claims p =
     (λ i h. let l : i < 15 = omega (arith, p.0) in p.1 i l ∙ sym (at_place bytes i l))
 
 -- a refused reading is that of the number 0
-pub read-zero : (due : ℕ) (bytes : List ℕ) → due ≡ 0 → read_of 0 [] ≡ read_of due bytes
-unfolding read_of
-read-zero due bytes e = rw (lt-leb 1 due (omega arith))
-
 pub read-refused : (due : ℕ) (bytes : List ℕ) → claim_block due bytes ≡ false → read_of 0 [] ≡ read_of due bytes
 unfolding read_of
 read-refused due bytes e = rw (e, and-false (leb 1 due))

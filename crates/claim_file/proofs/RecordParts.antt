@@ -1,8 +1,8 @@
--- Records by their fields and as the tests of their calls come out, and the definitions of blocks step by step as the code's loops go.
+-- Records by their fields, one that is stored, and the definitions of blocks step by step as the code's loops go.
 -- Assumes nothing.
 use Prim.Native.Nat.{ℕ, zero, suc, ◌+◌, ◌-◌, ◌*◌, ◌<◌}
 use mathlib.Core.Path.{◌≡◌, refl, sym, ap, ◌∙◌}
-use mathlib.Core.Bool.{Bool, true, false, ◌&&◌, and-false, and_assoc}
+use mathlib.Core.Bool.{Bool, true, false, ◌&&◌, and_assoc}
 use mathlib.Core.List.{List}
 use native.Mathlib.Omega.{arith}
 use lib.ListN.{length}
@@ -16,10 +16,9 @@ use Rattle.basics.proofs.Tests.{by, tests}
 use Rattle.claim_months.specs.declared.Claim.{Claim}
 use Rattle.study.proofs.InBounds.{every_in_range}
 use Rattle.claim_file.specs.Bytes.{byte_at, zero_from}
-use Rattle.claim_file.specs.Record.{claim_from, claim_bytes, record_padded}
-use Rattle.claim_file.specs.BlockAnswers.{has_record, record_in, record_after}
+use Rattle.claim_file.specs.Record.{claim_bytes, record_padded}
+use Rattle.claim_file.specs.BlockAnswers.{has_record, record_after}
 use Rattle.claim_file.specs.Block.{claims_padded}
-use Rattle.std.specs.Prelude.{None, Some}
 
 pub same-claim :
     (c d : Claim)
@@ -47,27 +46,10 @@ same-claim c d n a b t m s k l w =
       benefit = w i;
     }
 
--- reading and writing a record, as the tests come out
-module _ (bytes : List ℕ) (i : ℕ) where
-  pub no_room : has_record i (length bytes) ≡ false → None ≡ record_in bytes i
-  unfolding record_in
-  no_room e = rw e
-
-  pub not-padded : record_padded bytes i ≡ false → None ≡ record_in bytes i
-  unfolding record_in
-  not-padded e = rw (e, and-false)
-
-  pub record-found : has_record i (length bytes) ≡ true → record_padded bytes i ≡ true → Some (claim_from bytes i) ≡ record_in bytes i
-  unfolding record_in
-  record-found e p = rw (e, p)
-
-  pub record-left : (c : Claim) → has_record i (length bytes) ≡ false → bytes ≡ record_after c i bytes
-  unfolding record_after
-  record-left c e = rw e
-
-  pub record-stored : (c : Claim) → has_record i (length bytes) ≡ true → sets bytes i (claim_bytes c) ≡ record_after c i bytes
-  unfolding record_after
-  record-stored c e = rw e
+-- a record that there is room for
+pub record-stored : (bytes : List ℕ) (i : ℕ) (c : Claim) → has_record i (length bytes) ≡ true → sets bytes i (claim_bytes c) ≡ record_after c i bytes
+unfolding record_after
+record-stored bytes i c e = rw e
 
 -- two numbers are zero exactly where their bits together are
 or-zero : (a b : ℕ) → (eqb a 0 && eqb b 0) ≡ eqb (bit_or a b) 0

@@ -49,6 +49,11 @@ sound due bytes =
       none_so = λ z. absurd (omega tests);
     })
 
+pub block_sound-length : (due : ℕ) (bytes : List ℕ) → block_sound due bytes ≡ true → length bytes ≡ 512
+block_sound-length due bytes h = (sound due bytes h).length-so
+
+pub ruleset sound_size = (block_sound-length)
+
 -- a sound block's number is below 65,536
 pub sound-due : (due : ℕ) (bytes : List ℕ) → Sound due bytes → byte_at bytes 0 < 256 → byte_at bytes 1 < 256 → due < 65536
 unfolding two_at

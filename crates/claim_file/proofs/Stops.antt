@@ -21,6 +21,8 @@ no-stop (Some s) h = cc
 pub no-stop-number : (s : Option Stop) → is_some s ≡ false → stop_number s ≡ 0
 no-stop-number s h = ap stop_number (no-stop s h)
 
+pub ruleset stop_numbers = (stop-number, no-stop-number)
+
 -- an answer that is no refusal
 pub passed : {A : Type 0} (r : Result A Refusal) → ((e : Refusal) → r ≡ Err e → ⊥) → number_refused r ≡ 0
 passed (Ok x) h = refl

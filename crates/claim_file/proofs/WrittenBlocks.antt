@@ -2,11 +2,11 @@
 -- Assumes nothing.
 use Prim.Native.Nat.{ℕ, ◌+◌, ◌-◌, ◌*◌, ◌/◌, ◌%◌, ◌≤◌}
 use mathlib.Core.Path.{◌≡◌, refl, sym, ap, ◌∙◌}
-use mathlib.Core.Bool.{Bool, true, false, ◌&&◌, and-eq-true_iff}
+use mathlib.Core.Bool.{Bool, true, ◌&&◌}
 use mathlib.Core.List.{List, ◌∷◌, ◌++◌, append_assoc}
 use native.Mathlib.Omega.{arith}
 use lib.Dec.{leb, eqb}
-use borrow.Author.Tests.{le-leb, leb-true, eq-eqb, ne_eqb, eqb-true}
+use borrow.Author.Tests.{le-leb, eq-eqb}
 use lib.ListN.{length, take, drop, length-append}
 use lib.Seq.{sets, sets-eq}
 use Rattle.basics.specs.Pick.{pick}
@@ -18,7 +18,6 @@ use Rattle.claim_file.specs.Bytes.{two, date_bytes, zeros}
 use Rattle.claim_file.specs.Record.{all_claim_bytes}
 use Rattle.claim_file.specs.Block.{check_of, sealed, window_bytes, bytes_of_block}
 use Rattle.claim_file.proofs.Sealed.{check-append}
-use Rattle.basics.proofs.Tests.{by}
 use Rattle.basics.proofs.Stores.{run}
 use Rattle.claim_file.proofs.ByteStores.{sets-all, length-zeros, length-all}
 
@@ -97,19 +96,8 @@ module _ (number : ℕ) (block : Block) (old : List ℕ) where
   pub written-so : 1 ≤ number → number ≤ 65535 → block.count ≤ 15 → length old ≡ 512 → write_sound number block.count (length old) ≡ true
   written-so a b c d = write-is (le-leb _ _ a) (le-leb _ _ b) (le-leb _ _ c) (eq-eqb _ _ d)
 
-  pub not-written : (1 ≤ number → number ≤ 65535 → block.count ≤ 15 → length old ≡ 512 → ⊥) → write_sound number block.count (length old) ≡ false
-  unfolding write_sound
-  not-written h =
-      by (write_sound number block.count (length old)) (λ t. t ≡ false)
-      (λ e. let t = simp and-eq-true_iff at e in absurd (h (leb-true _ _ t.0.0.0) (leb-true _ _ t.0.0.1) (leb-true _ _ t.0.1) (eqb-true _ _ t.1)))
-      (λ _. refl)
-
   abbrev pub Answered : ℕ → List ℕ → Type 0
   Answered r new = (r ≡ write_check number block.count (length old)) × (new ≡ bytes_after number block old)
-
-  pub write-refused : write_sound number block.count (length old) ≡ false → Answered 11 old
-  unfolding write_check bytes_after
-  write-refused e = (rw e, rw e)
 
   pub write_done : (new : List ℕ) → write_sound number block.count (length old) ≡ true
       → new ≡ bytes_of_block number (take block.count block.claims) → Answered 0 new
@@ -119,10 +107,6 @@ module _ (number : ℕ) (block : Block) (old : List ℕ) where
 module _ (first last : Date) (old : List ℕ) where
   abbrev pub AnsweredWindow : ℕ → List ℕ → Type 0
   AnsweredWindow r new = (r ≡ pick (eqb (length old) 512) 0 11) × (new ≡ window_after first last old)
-
-  pub window-refused : (length old ≡ 512 → ⊥) → AnsweredWindow 11 old
-  unfolding window_after
-  window-refused h = let e = ne_eqb (length old) 512 h in (rw e, rw e)
 
   pub window-done : (new : List ℕ) → length old ≡ 512 → new ≡ window_bytes first last → AnsweredWindow 0 new
   unfolding window_after

@@ -51,6 +51,7 @@ fn is_framed(bytes: &[u8], due: u32) -> bool
 }
 
 // Whether a block is block 0 of a file.
+#[tactic(auto, using(crate::proofs::BlockTests::block_size), unfolding(crate::specs::Block::window_block, crate::specs::Block::claim_count, crate::specs::Bytes::byte_at))]
 fn is_window_block(bytes: &[u8]) -> bool
     ensures { result ≡ window_block bytes.now }
 {
@@ -58,6 +59,7 @@ fn is_window_block(bytes: &[u8]) -> bool
 }
 
 // Whether a block is the block of claims with the number due.
+#[tactic(auto, using(crate::proofs::BlockTests::block_size), unfolding(crate::specs::Block::claim_block, crate::specs::Block::claim_count, crate::specs::Bytes::byte_at))]
 fn is_claim_block(bytes: &[u8], due: u32) -> bool
     ensures { result ≡ claim_block due bytes.now }
 {
@@ -93,6 +95,7 @@ pub fn check(bytes: &[u8], due: u32) -> Result<(), Refusal>
 }
 
 // The window's dates, of block 0.
+#[tactic(auto, using(crate::proofs::BlockTests::block_size), unfolding(crate::specs::BlockAnswers::window_of))]
 pub fn read_window(bytes: &[u8]) -> Result<WindowDates, Refusal>
     ensures { numbered result ≡ window_of bytes.now }
 {
@@ -120,6 +123,7 @@ fn claims_of(bytes: &[u8], count: u8) -> [Claim; 15]
 }
 
 // The claims of the block with the number due.
+#[tactic(auto, using(crate::proofs::BlockTests::block_size), unfolding(crate::specs::BlockAnswers::read_of, crate::specs::Block::claim_count, crate::specs::Bytes::byte_at))]
 pub fn read(bytes: &[u8], due: u32) -> Result<Block, Refusal>
     ensures { read_by_number result ≡ read_of due bytes.now }
 {
@@ -142,6 +146,7 @@ fn put_claims(block: Block, bytes: &mut [u8; BLOCK_BYTES])
 }
 
 // Stores number, count and the zeros before byte 16.
+#[tactic(auto, using(basics::proofs::Stores::run), unfolding(crate::specs::Bytes::zeros))]
 fn put_head(number: u16, count: u8, bytes: &mut [u8; BLOCK_BYTES])
     ensures { bytes.new ≡ sets bytes.old 0 (two number ++ (count ∷ zeros 13)) }
 {
@@ -151,6 +156,7 @@ fn put_head(number: u16, count: u8, bytes: &mut [u8; BLOCK_BYTES])
 }
 
 // Stores the check of the bytes before it.
+#[tactic(auto, unfolding(crate::specs::Block::check_of))]
 fn put_check(bytes: &mut [u8; BLOCK_BYTES])
     ensures { bytes.new ≡ sets bytes.old 510 (two (check_of bytes.old)) }
 {
@@ -183,6 +189,7 @@ fn put_window(first: Date, last: Date, bytes: &mut [u8; BLOCK_BYTES])
 }
 
 // Writes the claim block with a number, or refuses it with 11 and leaves the bytes as they were.
+#[tactic(auto, using(std::proofs::lemmas::Bool::Decides::nat_tests), unfolding(crate::specs::BlockAnswers::write_sound, crate::specs::BlockAnswers::write_check, crate::specs::BlockAnswers::bytes_after))]
 pub fn write(number: u32, block: Block, bytes: &mut [u8]) -> Result<(), Refusal>
     ensures value { number_refused result ≡ write_check number block.count (length bytes.old) }
     ensures bytes_after { bytes.new ≡ bytes_after number block bytes.old }
@@ -198,6 +205,7 @@ pub fn write(number: u32, block: Block, bytes: &mut [u8]) -> Result<(), Refusal>
 }
 
 // Writes block 0 of a window, or refuses it with 11 and leaves the bytes as they were.
+#[tactic(auto, unfolding(crate::specs::BlockAnswers::window_after))]
 pub fn write_window(first: Date, last: Date, bytes: &mut [u8]) -> Result<(), Refusal>
     ensures value { number_refused result ≡ pick (eqb (length bytes.old) block_bytes) 0 11 }
     ensures bytes_after { bytes.new ≡ window_after first last bytes.old }

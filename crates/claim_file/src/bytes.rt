@@ -16,6 +16,7 @@ pub(crate) fn two_at(bytes: &[u8], at: usize) -> u16
 }
 
 // A number of four bytes, low byte first.
+#[tactic(auto, unfolding(crate::specs::Bytes::four_at, crate::specs::Bytes::two_at, crate::specs::Bytes::byte_at))]
 pub(crate) fn four_at(bytes: &[u8], at: usize) -> u32
     requires { at + 3 < length bytes.now }
     ensures { result ≡ four_at bytes.now at }
@@ -24,6 +25,7 @@ pub(crate) fn four_at(bytes: &[u8], at: usize) -> u32
 }
 
 // The date that stands at a byte.
+#[tactic(auto, unfolding(crate::specs::Bytes::date_from, crate::specs::Bytes::byte_at))]
 pub(crate) fn date_at(bytes: &[u8], at: usize) -> Date
     requires { at + 3 < length bytes.now }
     ensures { result ≡ date_from bytes.now at }
@@ -64,6 +66,7 @@ pub(crate) fn put_four(value: u32, at: usize, bytes: &mut [u8])
 }
 
 // Stores a date's four bytes.
+#[tactic(auto, using(basics::proofs::Stores::run))]
 pub(crate) fn put_date(date: Date, at: usize, bytes: &mut [u8])
     requires { at + 4 ≤ length bytes.old }
     ensures { bytes.new ≡ sets bytes.old at (date_bytes date) }

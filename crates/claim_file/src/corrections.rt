@@ -50,6 +50,7 @@ fn refused(study: Study, refusal: Refusal, block: u32, place: u8) -> CorrectedRu
 }
 
 // A run refused at a block that isn't sound: no study is opened.
+#[tactic(auto, unfolding(crate::specs::Marks::unsound_at, crate::specs::Run::started))]
 fn unsound_at(block: u32) -> CorrectedRun
     ensures { corrected_by_number result ≡ unsound_at block }
 {
@@ -57,6 +58,7 @@ fn unsound_at(block: u32) -> CorrectedRun
 }
 
 // One record of a block added to a study, unless a later one corrects it.
+#[tactic(auto, unfolding(crate::specs::Marks::unless_superseded, crate::specs::Corrections::records_added, crate::specs::PreparedRuns::adding_with))]
 fn add_record(
     kind: Kind,
     table: &[u32],

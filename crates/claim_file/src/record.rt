@@ -26,6 +26,7 @@ pub fn no_claim() -> Claim
 }
 
 // The claim whose record starts at a byte.
+#[tactic(auto, unfolding(crate::specs::Record::claim_from, crate::specs::Bytes::byte_at))]
 pub(crate) fn claim_from(bytes: &[u8], at: usize) -> Claim
     requires { at + 32 ≤ length bytes.now }
     ensures { result ≡ claim_from bytes.now at }
@@ -60,6 +61,7 @@ fn has_record(at: usize, room: usize) -> bool
 }
 
 // The claim whose record starts at a byte, if the list has 32 bytes there, zero past the fields.
+#[tactic(auto, unfolding(crate::specs::BlockAnswers::record_in))]
 pub fn read_record(bytes: &[u8], at: usize) -> Option<Claim>
     ensures { result ≡ record_in bytes.now at }
 {
@@ -73,6 +75,7 @@ pub fn read_record(bytes: &[u8], at: usize) -> Option<Claim>
 }
 
 // Stores a claim's four dates.
+#[tactic(auto, using(basics::proofs::Stores::run))]
 fn put_dates(claim: Claim, at: usize, bytes: &mut [u8])
     requires { at + 16 ≤ length bytes.old }
     ensures { bytes.new ≡ sets bytes.old at (date_bytes claim.disability ++ (date_bytes claim.bcd ++ (date_bytes claim.termination ++ date_bytes claim.maximum))) }
@@ -98,6 +101,7 @@ pub(crate) fn put_claim(claim: Claim, at: usize, bytes: &mut [u8])
 }
 
 // Stores a claim's record at a byte if there is room for it, and says whether there is.
+#[tactic(auto, unfolding(crate::specs::BlockAnswers::record_after))]
 pub fn write_record(claim: Claim, at: usize, bytes: &mut [u8]) -> bool
     ensures value { result ≡ has_record at (length bytes.old) }
     ensures bytes_after { bytes.new ≡ record_after claim at bytes.old }

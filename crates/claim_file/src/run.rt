@@ -80,6 +80,7 @@ impl LentRun {
     }
 
     // The run at the end of its file, whatever its sums: one without block 0 is refused 11.
+    #[tactic(auto, using(crate::proofs::Stops::stop_numbers), unfolding(crate::specs::LentRuns::run_with, crate::specs::Run::ended, crate::specs::Run::stops, crate::specs::Private::lent_stops))]
     pub fn end(self) -> LentRun
         ensures { (sums : List ℤ) → run_with result sums ≡ ended (run_with self sums) }
     {
@@ -107,6 +108,7 @@ impl LentRun {
 }
 
 // A block begun: its window opened if it is block 0, so with no claims and zero sums; refused 11 if it is not sound.
+#[tactic(auto, using(crate::proofs::Runs::sound_size), unfolding(crate::specs::LentRuns::run_with, crate::specs::Private::block_begun, crate::specs::Private::lent_stops, crate::specs::Run::begun, crate::specs::Run::stops))]
 fn begin(run: LentRun, bytes: &[u8], sums: &mut [i64; 80]) -> LentRun
     requires { IsNone run.stop }
     ensures { run_with result sums.new ≡ block_begun (run_with run sums.old) bytes.now }
@@ -187,6 +189,7 @@ impl FileRun {
     }
 
     // A run before its first block: no study opened yet.
+    #[tactic(auto, unfolding(study::specs::Sums::none, basics::specs::Tables::table))]
     pub fn start() -> FileRun
         ensures { run_by_number result ≡ started }
     {
@@ -219,6 +222,7 @@ impl FileRun {
 }
 
 // The run of a whole file, with a table of either kind.
+#[tactic(auto, unfolding(crate::specs::Run::file_run_with))]
 pub fn run_with(kind: Kind, table: &[u32], bytes: &[u8]) -> FileRun
     ensures { run_by_number result ≡ file_run_with (adding_with kind table.now) bytes.now }
 {

@@ -3,20 +3,8 @@ use Prim.Native.Nat.{◌≤◌}
 use native.Mathlib.Omega.{arith}
 use Rattle.std.proofs.lemmas.Grind.{common_steps}
 use Rattle.std.proofs.lemmas.Bool.Decides.{nat_tests}
-use Rattle.claim_file.proofs.WrittenBlocks.{written-so, not-written, write-refused, write_done}
+use Rattle.claim_file.proofs.WrittenBlocks.{written-so, write_done}
 use Rattle.claim_file.proofs.blocks.write.Goals as goal
-
-pub returns-then-not-contains : goal.returns-then-not-contains
-returns-then-not-contains c =
-    let s = c.args in
-    let rest = write-refused s.number s.block s.bytes.now (not-written s.number s.block s.bytes.now (λ a b d e. grind (arith, common_steps, nat_tests, c.then-not-contains.either, c.contains.ensures.value, c.new.ensures.start, c.new.ensures.end, c.new.ensures.exhausted))) in
-    record { value = rest.0; bytes_after = rest.1 }
-
-pub returns-in_default : goal.returns-in_default
-returns-in_default c =
-    let s = c.args in
-    let rest = write-refused s.number s.block s.bytes.now (not-written s.number s.block s.bytes.now (λ a b d e. c.in_default.ensures.cases e)) in
-    record { value = rest.0; bytes_after = rest.1 }
 
 pub returns : goal.returns
 returns c =

@@ -2,62 +2,27 @@
 use mathlib.Core.Path.{◌≡◌, sym, ap, ap₂, ◌∙◌}
 use mathlib.Core.Bool.{true}
 use mathlib.Core.List.{List}
-use native.Mathlib.Omega.{arith}
 use lib.IntN.{ℤ}
 use Prim.Native.Nat.{ℕ}
-use Rattle.std.specs.Prelude.{None}
-use Rattle.basics.specs.declared.refusal.Refusal.TheVariants.{Block}
 use Rattle.basics.specs.Refused.{number_of}
-use Rattle.claim_months.specs.declared.Window.{Window}
 use Rattle.claim_months.specs.Windows.{window_in}
-use Rattle.study.specs.Study.{fresh, first_day_alone}
+use native.Mathlib.Omega.{arith}
+use Rattle.std.proofs.lemmas.Grind.{common_steps}
+use Rattle.study.specs.Study.{fresh, first_day_alone, opened, opened_with}
 use Rattle.study.specs.Sums.{none}
 use Rattle.study.specs.PreparedAdding.{lent_study}
-use Rattle.claim_file.specs.Runs.{FileRun, stop_block, stop_place}
+use Rattle.claim_file.specs.Runs.{FileRun}
 use Rattle.claim_file.specs.declared.LentRun.{LentRun}
 use Rattle.claim_file.specs.Block.{block_sound}
-use Rattle.claim_file.specs.Run.{started, stops}
+use Rattle.claim_file.specs.Run.{started, begun, stops}
+use Rattle.claim_file.specs.Private.{block_begun}
 use Rattle.claim_file.specs.LentRuns.{run_with}
-use Rattle.claim_file.proofs.Stops.{no-stop, no-stop-number}
-use Rattle.claim_file.proofs.Runs.{sound}
-use Rattle.claim_file.proofs.LentRuns.{stops-with, begun-not, begun-later, begun-window, begun-no-window}
+use Rattle.claim_file.proofs.LentRuns.{stops-with, begun-no-window}
 use Rattle.claim_file.proofs.run.begin.Goals as goal
 
-pub returns-then-not-is_sound : goal.returns-then-not-is_sound
-unfolding run_with
-returns-then-not-is_sound c =
-    let run_of : FileRun = run_with c.args.run c.args.sums.now in
-    ap (λ (r : LentRun). run_with r c.args.sums.now) c.stopped.ensures
-    ∙ stops-with c.args.run c.args.sums.now c.args.sums.now c.args.run.taken Block 0
-    ∙ begun-not run_of c.args.bytes.now (sym c.is_sound.ensures ∙ c.if-not-is_sound.true)
-
-pub returns-then-run-ne0 : goal.returns-then-run-ne0
-unfolding run_with
-returns-then-run-ne0 c =
-    let run_of : FileRun = run_with c.args.run c.args.sums.now in
-    let sound-so : block_sound c.args.run.due c.args.bytes.now ≡ true = sym c.is_sound.ensures ∙ c.if-not-is_sound.false in
-    begun-later run_of c.args.bytes.now sound-so (no-stop-number c.args.run.stop c.requires) c.if-run-ne0.true
-
-pub date_at-requires : goal.date_at-requires
-date_at-requires c =
-    let sound-so : block_sound c.args.run.due c.args.bytes.now ≡ true = sym c.is_sound.ensures ∙ c.if-not-is_sound.false in
-    omega (arith, sound _ _ sound-so)
-
-pub date_at-requires-2 : goal.date_at-requires-2
-date_at-requires-2 c =
-    let sound-so : block_sound c.args.run.due c.args.bytes.now ≡ true = sym c.is_sound.ensures ∙ c.if-not-is_sound.false in
-    omega (arith, sound _ _ sound-so)
-
 pub returns-in-Ok : goal.returns-in-Ok
-unfolding run_with fresh
-returns-in-Ok c =
-    let run_of : FileRun = run_with c.args.run c.args.sums.now in
-    let sound-so : block_sound c.args.run.due c.args.bytes.now ≡ true = sym c.is_sound.ensures ∙ c.if-not-is_sound.false in
-    let none-so : c.args.run.stop ≡ None = no-stop c.args.run.stop c.requires in
-    let w = c.in-Ok in
-    ap (run_with (record { window = c.window_months.result; taken = 0; due = c.args.run.due; stop = None })) c.clear.ensures
-    ∙ ap (λ (x : Window). record { study = fresh x; due = c.args.run.due; refused = 0; block = 0; place = 0 }) c.window_months.ensures
-    ∙ begun-window run_of c.args.bytes.now sound-so c.if-run-ne0.false (ap stop_block none-so) (ap stop_place none-so) w.window (w.ensures ∙ ap₂ window_in c.date_at.ensures c.date_at-2.ensures)
+unfolding run_with block_begun begun stops opened opened_with fresh
+returns-in-Ok c = grind (arith, common_steps)
 
 pub returns-in-Err : goal.returns-in-Err
 unfolding run_with fresh stops started
