@@ -126,3 +126,5 @@ pub column-low : (w s r : ℕ) → w ≤ 272 → s ≤ 4080 → r ≤ 65280 → 
 column-low w s r h l q = omega (arith, mul-le-mul h l)
 
 pub ruleset column_low = (column-low, at-most-at)
+
+pub ruleset columns = (no_rows, by-row-fits, sums-fit)

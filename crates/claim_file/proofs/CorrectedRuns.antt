@@ -64,6 +64,8 @@ block-due bytes b s x y =
     (omega (arith, block-byte bytes b 0 (512 * b) (omega arith) (omega arith)))
     (omega (arith, block-byte bytes b 1 (512 * b + 1) (omega arith) refl))
 
+pub ruleset sound_steps = (sound-from-0, sound-on, sound-off, sound-out, block-cut, block-due)
+
 -- each block of a file of sound blocks is sound
 sound-at : (due : ℕ) (bytes : List ℕ) (n : ℕ) → sound_blocks due bytes n ≡ n → (k : ℕ) → k < n → block_sound (due + k) (block_of bytes k) ≡ true
 sound-at due bytes zero e k h = absurd (omega arith)

@@ -38,6 +38,7 @@ pub(crate) fn date_at(bytes: &[u8], at: usize) -> Date
 }
 
 // Whether the bytes of a part are zero.
+#[tactic(auto, unfolding(crate::specs::Bytes::zero_from))]
 pub(crate) fn all_zero(bytes: &[u8], from: usize, count: usize) -> bool
     requires { from + count ≤ length bytes.now }
     ensures { result ≡ zero_from bytes.now from count }

