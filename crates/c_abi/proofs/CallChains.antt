@@ -1,39 +1,36 @@
 -- A list stands for its study: what is written is read back, place by place; so each call on lists does what the call on studies does, and every chain.
 -- Assumes nothing.
 use Prim.Native.Nat.{ℕ, suc, ◌+◌, ◌≤◌}
-use mathlib.Core.Path.{◌≡◌, refl, sym, ap, ap₂, ◌∙◌, subst⁻¹}
+use mathlib.Core.Path.{◌≡◌, refl, sym, ap, ap₂, ◌∙◌, subst, subst⁻¹}
 use mathlib.Core.Bool.{Bool}
 use mathlib.Core.List.{List, [], ◌∷◌, ◌++◌}
 use native.Mathlib.Omega.{arith}
 use lib.IntN.{ℤ, pos}
 use lib.ListN.{length, get_or, drop, length-append, get_or-append}
 use lib.Seq.{sets, sets-eq, drop_at}
-use lib.Dec.{leb, eqb}
+use lib.Dec.{eqb}
 use borrow.Author.Tests.{le-leb, le-ltb}
 use Rattle.basics.specs.Pick.{pick}
-use Rattle.basics.specs.Limits.{most_claims, no_form}
+use Rattle.basics.specs.Limits.{most_claims}
 use Rattle.basics.proofs.Tests.{tests, by}
 use Rattle.basics.proofs.Tables.{list-table}
 use Rattle.calendar.specs.Calendar.{last_day_number}
 use Rattle.claim_months.specs.declared.Claim.{Claim}
 use Rattle.rates.specs.declared.Kind.{Kind}
-use Rattle.rates.specs.declared.Kind.TheVariants.{Plain, Prepared}
 use Rattle.study.specs.declared.Study.{Study}
 use Rattle.study.specs.Answers.{Answer}
 use Rattle.study.specs.Study.{opened}
 use Rattle.study.specs.Joining.{joined}
 use Rattle.study.specs.Returned.{Returned, Returns}
-use Rattle.study.proofs.EitherTable.{same-adding}
-use Rattle.study.proofs.PreparedWithdrawing.{same-withdrawing}
 use Rattle.study.proofs.Returned.{calls-return}
 use Rattle.study_list.specs.StudyList.{study_numbers}
 use Rattle.claim_file.specs.BlockAnswers.{record_in}
 use Rattle.c_abi.specs.declared.Change.{Change}
 use Rattle.c_abi.specs.declared.Change.TheVariants.{Add, Withdraw}
 use Rattle.c_abi.specs.Abi.{date_in}
-use Rattle.c_abi.specs.StudyCalls.{study_form, held_up_to, sums_in, study_in, Taking, changed_by, taken_from, open_answer, open_after, claim_answer, claim_after, join_answer, join_after}
-use Rattle.c_abi.specs.CallChains.{sum_in, Stands, Does, call_taking, CallsStand, Calls, opens, changes, joins, Lent, list_left, lent_to, list_answers, study_left, study_answers, SameChains}
-use Rattle.c_abi.proofs.ClaimAnswers.{no-study, no_record}
+use Rattle.c_abi.specs.StudyCalls.{study_form, held_up_to, sums_in, study_in, changed_by, taken_from, open_answer, open_after, claim_answer, claim_after, join_answer, join_after}
+use Rattle.c_abi.specs.CallChains.{sum_in, Stands, Does, CallsStand, Calls, opens, changes, joins, Lent, list_left, lent_to, list_answers, study_left, study_answers, SameChains}
+use Rattle.c_abi.proofs.Changes.{adding-is, withdrawing-is, no_record}
 use Rattle.std.specs.Prelude.{None, Option, Some}
 
 -- a number of a study, read from where it stands
@@ -104,14 +101,11 @@ does xs s a h r =
     }
 
 -- the calls that take a claim return a study
-keeps : (change : Change) (kind : Kind) (s : Study) (c : Claim) (table : List ℕ) → Returns s (call_taking change kind s c table)
-unfolding call_taking changed_by
-keeps Add Plain s c table = subst⁻¹ (Returns s) (sym (same-adding.plain s c table)) (calls-return.adding Plain s c table)
-keeps Withdraw Plain s c table = subst⁻¹ (Returns s) (sym (same-withdrawing.plain s c table)) (calls-return.withdrawing Plain s c table)
-keeps Add Prepared s c table = calls-return.adding Prepared s c table
-keeps Withdraw Prepared s c table = calls-return.withdrawing Prepared s c table
+keeps : (change : Change) (kind : Kind) (s : Study) (c : Claim) (table : List ℕ) → Returns s (changed_by change kind s c table)
+keeps Add kind s c table = subst (Returns s) (adding-is kind s c table) (calls-return.adding kind s c table)
+keeps Withdraw kind s c table = subst (Returns s) (withdrawing-is kind s c table) (calls-return.withdrawing kind s c table)
 
-keeps-from : (change : Change) (kind : Kind) (s : Study) (m : Option Claim) (table : List ℕ) → Returns s (taken_from (call_taking change kind) s m table)
+keeps-from : (change : Change) (kind : Kind) (s : Study) (m : Option Claim) (table : List ℕ) → Returns s (taken_from (changed_by change kind) s m table)
 unfolding taken_from
 keeps-from change kind s (Some c) table = keeps change kind s c table
 keeps-from change kind s None table = record { returned = λ r. r; as_given = λ z. refl }
@@ -125,25 +119,18 @@ opening first last xs h =
     (record { answer = refl; left = written_stands xs h a.study r; behind = written_behind xs h a.study r })
 
 changing : (change : Change) (kind : Kind) (xs : List ℤ) (s : Study) (claim table : List ℕ) → Stands xs s
-    → Does xs (claim_answer (call_taking change kind) xs claim table) (claim_after (call_taking change kind) xs claim table)
-    (taken_from (call_taking change kind) s (record_in claim 0) table)
+    → Does xs (claim_answer (changed_by change kind) xs claim table) (claim_after (changed_by change kind) xs claim table)
+    (taken_from (changed_by change kind) s (record_in claim 0) table)
 unfolding claim_after claim_answer study_form
 changing change kind xs s claim table h =
     rw (le-leb 83 (length xs) h.form, stands_read xs s h)
-    (does xs s (taken_from (call_taking change kind) s (record_in claim 0) table) h (keeps-from change kind s (record_in claim 0) table))
+    (does xs s (taken_from (changed_by change kind) s (record_in claim 0) table) h (keeps-from change kind s (record_in claim 0) table))
 
 joining : (xs ys : List ℤ) (s t : Study) → Stands xs s → Stands ys t → Does xs (join_answer xs ys) (join_after xs ys) (joined s t)
 unfolding join_after join_answer study_form
 joining xs ys s t h g =
     rw (le-leb 83 (length xs) h.form, le-leb 83 (length ys) g.form, stands_read xs s h, stands_read ys t g)
     (does xs s (joined s t) h (calls-return.joining s t))
-
-unread : (take : Taking) (xs : List ℤ) (claim table : List ℕ) → record_in claim 0 ≡ None
-    → (claim_answer take xs claim table ≡ no_form) × (claim_after take xs claim table ≡ xs)
-unread take xs claim table e =
-    by (leb 83 (length xs)) (λ _. (claim_answer take xs claim table ≡ no_form) × (claim_after take xs claim table ≡ xs))
-    (λ q. let p = no_record take xs claim table (omega tests) (sym e) in (sym p.0, sym p.1))
-    (λ q. let p = no-study take xs claim table (omega tests) in (sym p.0, sym p.1))
 
 pub calls-stand : CallsStand
 calls-stand =
@@ -152,7 +139,7 @@ calls-stand =
       opening = opening;
       changing = changing;
       joining = joining;
-      no_record = λ change kind. unread (call_taking change kind);
+      no_record = λ change kind xs claim table e. let p = no_record (changed_by change kind) xs claim table e in (sym p.0, sym p.1);
     }
 
 -- a chain, call by call

@@ -14,7 +14,7 @@ use Rattle.basics.proofs.Tests.{tests, by}
 use Rattle.claim_months.specs.declared.Claim.{Claim}
 use Rattle.claim_months.specs.Claim.{weight}
 use Rattle.claim_months.specs.Windows.{Parts, total, EveryPart}
-use Rattle.claim_months.proofs.Parts.{parts-every, parts-map, every_map, every-both, no_part, one-part, total-same}
+use Rattle.claim_months.proofs.Parts.{parts-every, every_map}
 use Rattle.rates.specs.declared.Kind.{Kind}
 use Rattle.rates.specs.declared.Kind.TheVariants.{Plain, Prepared}
 use Rattle.study.specs.declared.Study.{Study}
@@ -30,16 +30,16 @@ use Rattle.c_abi.specs.declared.Change.{Change}
 use Rattle.c_abi.specs.declared.Change.TheVariants.{Add, Withdraw}
 use Rattle.c_abi.specs.Abi.{date_in}
 use Rattle.c_abi.specs.StudyCalls.{changed_by, taken_from, open_answer, open_after, claim_answer, claim_after}
-use Rattle.c_abi.specs.CallChains.{sum_in, Stands, Does, call_taking}
+use Rattle.c_abi.specs.CallChains.{sum_in, Stands, Does}
 use Rattle.c_abi.specs.CallsAddUp.{table_of, add_answer, add_after, CallRun, study_run, call_window, CallOpens, record_at, RecordsOf, list_after, list_given_to, last_list, list_given_at, call_answer_at, list_change, CallCounts, CallLeaves, CallWeighs, CallsAddUp, CallsDemand3}
 use Rattle.c_abi.proofs.CallChains.{calls-stand}
-use Rattle.c_abi.proofs.PartsAlong.{parts-along, total-along, every-along, none-along, one_along}
+use Rattle.c_abi.proofs.PartsAlong.{parts-along, every-along, none-along, one_along}
 use Rattle.std.specs.Prelude.{Option, Some}
 
 -- with the table of either kind a claim is taken as with the rates
 same-taking : (change : Change) (kind : Kind) (rates : List ℕ) (s : Study) (c : Claim)
-    → call_taking change kind s c (table_of kind rates) ≡ call_taking change Plain s c rates
-unfolding call_taking changed_by table_of
+    → changed_by change kind s c (table_of kind rates) ≡ changed_by change Plain s c rates
+unfolding changed_by table_of
 same-taking change Plain rates s c = refl
 same-taking Add Prepared rates s c = same-adding.prepared s c rates
 same-taking Withdraw Prepared rates s c = same-withdrawing.prepared s c rates
@@ -47,11 +47,11 @@ same-taking Withdraw Prepared rates s c = same-withdrawing.prepared s c rates
 -- the record of a claim is taken as the claim
 pub record-taken : (change : Change) (kind : Kind) (rates : List ℕ) (xs : List ℤ) (s : Study) (bytes : List ℕ) (c : Claim) → Stands xs s
     → record_in bytes 0 ≡ Some c
-    → Does xs (claim_answer (call_taking change kind) xs bytes (table_of kind rates)) (claim_after (call_taking change kind) xs bytes (table_of kind rates))
-    (call_taking change Plain s c rates)
+    → Does xs (claim_answer (changed_by change kind) xs bytes (table_of kind rates)) (claim_after (changed_by change kind) xs bytes (table_of kind rates))
+    (changed_by change Plain s c rates)
 unfolding taken_from
 record-taken change kind rates xs s bytes c h e =
-    let take = call_taking change kind in
+    let take = changed_by change kind in
     let table = table_of kind rates in
     subst (Does xs (claim_answer take xs bytes table) (claim_after take xs bytes table))
     (ap (λ (m : Option Claim). taken_from take s m table) e ∙ same-taking change kind rates s c) (calls-stand.changing change kind xs s bytes table h)
@@ -63,17 +63,20 @@ opens-call first last xs =
     by (ltb (length xs) 83) (λ t. pick t no_form n ≡ 0 → (83 ≤ length xs) × (n ≡ 0)) (λ q e. absurd (omega tests)) (λ q e. (omega tests, e))
 
 -- lists that stand for studies whose sums total
-total-at : {A : Type 0} (f : A → List ℤ) (k : ℕ) → k < 80 → (w : A) (ws : List A) → at (total plus f w ws) k ≡ total ◌+ℤ◌ (λ (v : A). at (f v) k) w ws
-unfolding total
-total-at f k h w [] = refl
-total-at f k h w (v ∷ ws) = each_at ◌+ℤ◌ (f w) (total plus f v ws) k h ∙ ap (λ (z : ℤ). at (f w) k +ℤ z) (total-at f k h v ws)
+module _ {A B : Type 0} (f : A → B) (list : A → List ℤ) (study : B → Study) where
+  abbrev StandsFor : A → Type 0
+  StandsFor a = Stands (list a) (study (f a))
 
-pub lists_total : {A : Type 0} (list : A → List ℤ) (study : A → Study) (whole part : A) (parts : List A) → Stands (list whole) (study whole)
-    → EveryPart (λ (a : A). Stands (list a) (study a)) part parts → total plus (λ (a : A). (study a).sums) part parts ≡ (study whole).sums
-    → (k : ℕ) → k < 80 → total ◌+ℤ◌ (λ (a : A). sum_in (list a) k) part parts ≡ sum_in (list whole) k
-lists_total list study whole part parts w ps e k h =
-    total-same ◌+ℤ◌ (λ a. sum_in (list a) k) (λ a. at (study a).sums k) part parts (every_map _ _ (λ a s. s.sum k h) part parts ps)
-    ∙ sym (total-at (λ a. (study a).sums) k h part parts) ∙ ap (λ (s : List ℤ). at s k) e ∙ sym (w.sum k h)
+  total-at : (k : ℕ) → k < 80 → (w : A) (ws : List A) → EveryPart StandsFor w ws
+      → total ◌+ℤ◌ (λ (a : A). sum_in (list a) k) w ws ≡ at (total plus (λ (b : B). (study b).sums) (f w) (map f ws)) k
+  unfolding total
+  total-at k h w [] s = s.sum k h
+  total-at k h w (v ∷ ws) s = ap₂ ◌+ℤ◌ (s.0.sum k h) (total-at k h v ws s.1) ∙ sym (each_at ◌+ℤ◌ _ _ k h)
+
+  pub lists_total : (whole part : A) (parts : List A) → StandsFor whole → EveryPart StandsFor part parts
+      → total plus (λ (b : B). (study b).sums) (f part) (map f parts) ≡ (study (f whole)).sums
+      → (k : ℕ) → k < 80 → total ◌+ℤ◌ (λ (a : A). sum_in (list a) k) part parts ≡ sum_in (list whole) k
+  lists_total whole part parts w s e k h = total-at k h part parts s ∙ ap (λ (l : List ℤ). at l k) e ∙ sym (w.sum k h)
 
 -- every place of an order is one of the list's
 unfoldable AllBelow : ℕ → List ℕ → Type 0
@@ -92,7 +95,7 @@ module _ (kind : Kind) (rates : List ℕ) (records : List (List ℕ)) (claims : 
   -- one call, and the calls of an order
   added-place : (xs : List ℤ) (s : Study) → Stands xs s → (i : ℕ) → i < length claims
       → Does xs (add_answer kind rates xs (record_at records i)) (add_after kind rates xs (record_at records i)) (added s (nth_claim claims i) rates)
-  unfolding call_taking
+  unfolding changed_by
   added-place xs s h i l = record-taken Add kind rates xs s (record_at records i) (nth_claim claims i) h (recs i l)
 
   after-stands : (order : List ℕ) → AllBelow (length claims) order → (xs : List ℤ) (s : Study) → Stands xs s
@@ -179,15 +182,14 @@ module _ (kind : Kind) (rates : List ℕ) (records : List (List ℕ)) (claims : 
     of-studies : AddsUp rates claims (study_run whole) (study_run part) (map study_run parts)
     of-studies =
         demand-3 rates claims (study_run whole) (study_run part) (map study_run parts) few (run-opens whole ow)
-        (parts-along study_run (Opens (length claims)) run_window b e part parts
-        (parts-map (CallOpens (length claims)) (λ r. Opens (length claims) (study_run r)) call_window run-opens b e part parts cut))
+        (parts-along study_run (CallOpens (length claims)) (Opens (length claims)) run_window run-opens b e part parts cut)
 
     stand : EveryPart (λ r. Stands (last_list kind rates records r) (last_study rates claims (study_run r))) part parts
     stand = every_map _ _ (λ r o. (last-stands r o).0) part parts opens
 
     every : (P : StudyRun → Type 0) (Q : CallRun → Type 0) → ((r : CallRun) → CallOpens (length claims) r → P (study_run r) → Q r)
         → EveryPart P (study_run part) (map study_run parts) → EveryPart Q part parts
-    every P Q f h = every-both (CallOpens (length claims)) (λ r. P (study_run r)) Q f part parts opens (every-along study_run P part parts h)
+    every P Q f h = every-along study_run (CallOpens (length claims)) P Q f part parts opens h
 
     abbrev Claims-at : StudyRun → Study
     Claims-at r = study_of (run_window r) rates (accepted rates claims)
@@ -197,17 +199,14 @@ module _ (kind : Kind) (rates : List ℕ) (records : List (List ℕ)) (claims : 
         let a = of-studies in
         record {
           sums =
-              lists_total (last_list kind rates records) (λ r. last_study rates claims (study_run r)) whole part parts (last-stands whole ow).0 stand
-              (sym (total-along study_run plus (λ r. (last_study rates claims r).sums) part parts) ∙ a.sums);
+              lists_total study_run (last_list kind rates records) (last_study rates claims) whole part parts (last-stands whole ow).0 stand a.sums;
           answer = λ i l. answer-is whole ow i l ∙ a.answer i l;
           same_answer = λ i l.
               every (λ r. answer_at rates claims i r ≡ answer_at rates claims i (study_run whole)) _ (λ r o p. answer-is r o i l ∙ p ∙ sym (answer-is whole ow i l)) (a.same_answer i l);
           counted = λ i l q.
               let (c, one, each) = a.counted i l q in (
                 counts whole ow i l c,
-                one-part (λ r. CountedClosed rates claims i (study_run r)) (CallCounts kind rates records i) part parts
-                    (every_map (CallOpens (length claims)) _ (λ r o. (counts r o i l, counted r o i l)) part parts opens)
-                    (one_along study_run (CountedClosed rates claims i) part parts one),
+                one_along study_run (CallOpens (length claims)) (CountedClosed rates claims i) _ (λ r o. counts r o i l) (λ r o. counted r o i l) part parts opens one,
                 every (λ r. CountedClosed rates claims i r ⊎ LeavesClosings rates claims i r) _
                     (λ r o p. ⊎_elim (λ y. inl (counts r o i l y)) (λ y. inr (leaves r o i l y)) p) each,
               );
@@ -216,8 +215,7 @@ module _ (kind : Kind) (rates : List ℕ) (records : List (List ℕ)) (claims : 
                 leaves whole ow i l c,
                 every (LeavesClosings rates claims i) _ (λ r o p. leaves r o i l p) each,
                 λ y. never (counted whole ow i l y),
-                no_part (λ r. CountedClosed rates claims i (study_run r)) (CallCounts kind rates records i) part parts
-                    (every_map (CallOpens (length claims)) _ (λ r o. counted r o i l) part parts opens) (none-along study_run (CountedClosed rates claims i) part parts none),
+                none-along study_run (CallOpens (length claims)) (CountedClosed rates claims i) _ (λ r o. counted r o i l) part parts opens none,
               );
           weighted_closings = λ i l.
               let (c, each) = a.weighted_closings i l in

@@ -1,8 +1,8 @@
 -- `CallChains`: a list stands for its study, and calls on lists do what calls on studies do. `StudyCalls`: calls with a prepared table.
 -- `CorrectedStored`, `DurationsStored`: runs with corrections and rows of durations, and a prepared table. `CallsAddUp`: demand 3 of the calls.
 -- `CallMoves`: moves and pools by the calls. `BlockCalls`: blocks written and read back by the calls.
--- `PartsAlong`: parts that are read off others. The other modules have what the proofs of the calls cite. `ClaimAnswers`: which tests lead to which
--- answer of `ltd_add` and `ltd_withdraw`. `JoinAnswers`: of `ltd_join`. `Copies`: a list copied over a part of another.
+-- `PartsAlong`: parts that are read off others. The other modules have what the proofs of the calls cite. `Changes`: which tests lead to which answer of
+-- a call that changes a study. `Copies`: a list copied over a part of another.
 pub mod StudyCalls
 pub mod CallChains
 pub mod CallsAddUp
@@ -11,6 +11,5 @@ pub mod CorrectedStored
 pub mod BlockCalls
 pub mod DurationsStored
 mod PartsAlong
-mod ClaimAnswers
-mod JoinAnswers
+mod Changes
 mod Copies

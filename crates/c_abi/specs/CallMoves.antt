@@ -15,8 +15,8 @@ use Rattle.claim_file.specs.BlockAnswers.{record_in}
 use Rattle.c_abi.specs.declared.Change.{Change}
 use Rattle.c_abi.specs.declared.Change.TheVariants.{Add, Withdraw}
 use Rattle.c_abi.specs.Abi.{date_in}
-use Rattle.c_abi.specs.StudyCalls.{open_answer, open_after, claim_answer, claim_after, join_answer, join_after}
-use Rattle.c_abi.specs.CallChains.{sum_in, Stands, call_taking}
+use Rattle.c_abi.specs.StudyCalls.{changed_by, open_answer, open_after, claim_answer, claim_after, join_answer, join_after}
+use Rattle.c_abi.specs.CallChains.{sum_in, Stands}
 use Rattle.c_abi.specs.CallsAddUp.{table_of}
 
 -- A move by a call: adding or withdrawing, the bytes that are lent, and the claim that they are the record of
@@ -46,10 +46,10 @@ abbrev pub change_of : CallMove → Change
 change_of m = pick m.withdraws Withdraw Add
 
 abbrev pub move_answer : Kind → List ℕ → List ℤ → CallMove → ℕ
-move_answer kind rates xs m = claim_answer (call_taking (change_of m) kind) xs m.bytes (table_of kind rates)
+move_answer kind rates xs m = claim_answer (changed_by (change_of m) kind) xs m.bytes (table_of kind rates)
 
 abbrev pub move_after : Kind → List ℕ → List ℤ → CallMove → List ℤ
-move_after kind rates xs m = claim_after (call_taking (change_of m) kind) xs m.bytes (table_of kind rates)
+move_after kind rates xs m = claim_after (changed_by (change_of m) kind) xs m.bytes (table_of kind rates)
 
 unfoldable pub list_moved : Kind → List ℕ → List ℤ → List CallMove → List ℤ
 list_moved kind rates xs [] = xs

@@ -16,8 +16,8 @@ use Rattle.study.specs.Demand3.{StudyRun, run_window, IsOrder, nth_claim, closes
 use Rattle.claim_file.specs.BlockAnswers.{record_in}
 use Rattle.c_abi.specs.declared.Change.TheVariants.{Add}
 use Rattle.c_abi.specs.Abi.{date_in}
-use Rattle.c_abi.specs.StudyCalls.{open_answer, open_after, claim_answer, claim_after}
-use Rattle.c_abi.specs.CallChains.{sum_in, Stands, call_taking}
+use Rattle.c_abi.specs.StudyCalls.{changed_by, open_answer, open_after, claim_answer, claim_after}
+use Rattle.c_abi.specs.CallChains.{sum_in, Stands}
 
 -- the table that the calls of a kind are lent: the rates, or what ltd_prepare made of them
 unfoldable pub table_of : Kind → List ℕ → List ℕ
@@ -26,10 +26,10 @@ table_of Prepared rates = prepared_of rates
 
 -- ltd_add or ltd_prepared_add of a record: the answer, and the list afterwards
 abbrev pub add_answer : Kind → List ℕ → List ℤ → List ℕ → ℕ
-add_answer kind rates xs bytes = claim_answer (call_taking Add kind) xs bytes (table_of kind rates)
+add_answer kind rates xs bytes = claim_answer (changed_by Add kind) xs bytes (table_of kind rates)
 
 abbrev pub add_after : Kind → List ℕ → List ℤ → List ℕ → List ℤ
-add_after kind rates xs bytes = claim_after (call_taking Add kind) xs bytes (table_of kind rates)
+add_after kind rates xs bytes = claim_after (changed_by Add kind) xs bytes (table_of kind rates)
 
 -- One run: the two dates, as the calls take them, the list that ltd_open is lent, and the order in which that list gets the places of the records
 pub record CallRun : Type 0 where

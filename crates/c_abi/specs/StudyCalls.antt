@@ -8,7 +8,7 @@ use Rattle.basics.specs.Tables.{table}
 use Rattle.calendar.specs.Calendar.{last_day_number}
 use Rattle.claim_months.specs.declared.Claim.{Claim}
 use Rattle.rates.specs.declared.Kind.{Kind}
-use Rattle.rates.specs.declared.Kind.TheVariants.{Prepared}
+use Rattle.rates.specs.declared.Kind.TheVariants.{Plain, Prepared}
 use Rattle.rates.specs.Prepared.{prepared_of}
 use Rattle.study.specs.declared.Study.{Study}
 use Rattle.study.specs.Answers.{Answer}
@@ -68,23 +68,31 @@ open_after first last xs = stored 83 xs (sets xs 0 (study_numbers (opened (date_
 abbrev pub Taking : Type 0
 Taking = Study → Claim → List ℕ → Answer
 
--- adding and withdrawing with a table of either kind
+-- ltd_add and ltd_withdraw, ltd_prepared_add and ltd_prepared_withdraw, as their contracts have them
 unfoldable pub changed_by : Change → Kind → Taking
-changed_by Add kind s c table = added_with kind s c table
-changed_by Withdraw kind s c table = withdrawn_with kind s c table
+changed_by Add Plain = added
+changed_by Withdraw Plain = withdrawn
+changed_by Add Prepared = added_with Prepared
+changed_by Withdraw Prepared = withdrawn_with Prepared
 
 -- the same of the claim of a record: 255 where the list has no record
 unfoldable pub taken_from : Taking → Study → Option Claim → List ℕ → Answer
 taken_from take s (Some c) rates = take s c rates
 taken_from take s None rates = record { refused = no_form; study = s }
 
--- ltd_add, ltd_withdraw and the calls with a prepared table: 255 for a study or a record that has not its form; the list afterwards, untouched by any refusal
+-- a change of a study's list: 255 where what is lent has not its form; the list afterwards, untouched by any refusal
+abbrev pub form_answer : Bool → Answer → ℕ
+form_answer form a = pick form a.refused no_form
+
+abbrev pub form_after : Bool → List ℤ → Answer → List ℤ
+form_after form xs a = pick (eqb (form_answer form a) 0) (sets xs 0 (study_numbers a.study)) xs
+
+-- ltd_add, ltd_withdraw and the calls with a prepared table, of a study and a record
 unfoldable pub claim_answer : Taking → List ℤ → List ℕ → List ℕ → ℕ
-claim_answer take xs claim rates = pick (study_form xs) (taken_from take (study_in xs) (record_in claim 0) rates).refused no_form
+claim_answer take xs claim rates = form_answer (study_form xs) (taken_from take (study_in xs) (record_in claim 0) rates)
 
 unfoldable pub claim_after : Taking → List ℤ → List ℕ → List ℕ → List ℤ
-claim_after take xs claim rates =
-    pick (eqb (claim_answer take xs claim rates) 0) (sets xs 0 (study_numbers (taken_from take (study_in xs) (record_in claim 0) rates).study)) xs
+claim_after take xs claim rates = form_after (study_form xs) xs (taken_from take (study_in xs) (record_in claim 0) rates)
 
 -- With a table prepared of some rates ltd_prepared_add is ltd_add with these rates, and ltd_prepared_withdraw is ltd_withdraw: in the answer and
 -- in the list, for all lists
@@ -98,9 +106,9 @@ pub record SameCalls : Type 0 where
   pub adding : AsWithRates (changed_by Add Prepared) added
   pub withdrawing : AsWithRates (changed_by Withdraw Prepared) withdrawn
 
--- ltd_join: 255 for a list that has not the form of a study; the first list afterwards, untouched by any refusal
+-- ltd_join, of two studies: the first list afterwards
 unfoldable pub join_answer : List ℤ → List ℤ → ℕ
-join_answer xs ys = pick (study_form xs && study_form ys) (joined (study_in xs) (study_in ys)).refused no_form
+join_answer xs ys = form_answer (study_form xs && study_form ys) (joined (study_in xs) (study_in ys))
 
 unfoldable pub join_after : List ℤ → List ℤ → List ℤ
-join_after xs ys = pick (eqb (join_answer xs ys) 0) (sets xs 0 (study_numbers (joined (study_in xs) (study_in ys)).study)) xs
+join_after xs ys = form_after (study_form xs && study_form ys) xs (joined (study_in xs) (study_in ys))

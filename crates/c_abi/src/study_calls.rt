@@ -111,6 +111,7 @@ fn change_study(change: Change, kind: Kind, study: &mut [i64], claim: &[u8], tab
 
 // Adds a claim to a study.
 #[unsafe(no_mangle)]
+#[tactic(auto, unfolding(crate::specs::StudyCalls::changed_by))]
 pub extern "C" fn ltd_add(study: &mut [i64], claim: &[u8], rates: &[u32]) -> u8
     ensures value { result ≡ claim_answer added study.old claim.now rates.now }
     ensures study_after { study.new ≡ claim_after added study.old claim.now rates.now }
@@ -129,6 +130,7 @@ pub extern "C" fn ltd_prepared_add(study: &mut [i64], claim: &[u8], table: &[u32
 
 // Withdraws a claim from a study.
 #[unsafe(no_mangle)]
+#[tactic(auto, unfolding(crate::specs::StudyCalls::changed_by))]
 pub extern "C" fn ltd_withdraw(study: &mut [i64], claim: &[u8], rates: &[u32]) -> u8
     ensures value { result ≡ claim_answer withdrawn study.old claim.now rates.now }
     ensures study_after { study.new ≡ claim_after withdrawn study.old claim.now rates.now }

@@ -18,7 +18,8 @@ use rates::Kind;
 use study_list::put_placed;
 
 // Stores number, block and place of a run, and its study, and answers the number.
-// Kept: what it answers is the C call's number, and 255 is no `Refusal`. Its twin in `c_abi` is of another type of run: what both share is `put_placed`.
+// Kept: what it answers is the C call's number, and 255 is no `Refusal`. Its twin `put_corrected` of `c_abi` is of another type of run: what both share is `put_placed`.
+#[tactic(auto, unfolding(crate::specs::FileCalls::run_numbers))]
 fn put_run(run: FileRun, out: &mut [i64]) -> u8
     ensures value { result ≡ answered 86 out.old (run_by_number run).refused }
     ensures out_after { out.new ≡ stored 86 out.old (sets out.old 0 (run_numbers (run_by_number run))) }

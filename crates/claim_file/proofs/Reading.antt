@@ -12,7 +12,7 @@ use lib.Dec.{leb, eqb}
 use borrow.Author.Tests.{ne_eqb, le-leb, lt-leb, eqb-true, eqb-false}
 use Rattle.basics.specs.Pick.{pick}
 use Rattle.basics.specs.Checks.{refuse_block}
-use Rattle.basics.proofs.Tests.{by, and_right}
+use Rattle.basics.proofs.Tests.{by, tests, and_right}
 use Rattle.claim_months.specs.declared.Claim.{Claim}
 use Rattle.claim_file.specs.BlockAnswers.{BlockRead}
 use Rattle.claim_file.specs.Bytes.{date_from}

@@ -1,2 +1,0 @@
--- `RunsStored`: a run in a list.
-mod RunsStored
