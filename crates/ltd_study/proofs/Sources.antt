@@ -2,14 +2,25 @@
 -- Assumes nothing.
 use Prim.Native.Nat.{ℕ, ◌+◌, ◌≤◌}
 use mathlib.Core.Path.{◌≡◌, refl, sym, ap, ◌∙◌, subst⁻¹}
-use mathlib.Core.Bool.{Bool}
-use mathlib.Core.List.{List, [], ◌++◌, append_assoc, append-nil}
+use mathlib.Core.Bool.{Bool, true, false}
+use mathlib.Core.List.{List, [], ◌∷◌, ◌++◌, append_assoc, append-nil}
 use native.Mathlib.Omega.{arith}
 use lib.ListN.{length, take}
 use lib.Seq.{length-take-le, take-append-le, take-append-add}
 use borrow.Rule.Slice.PartMut.{post_of, put_mid}
 use Rattle.std.specs.Prelude.{Option, Some, None}
-use Rattle.ltd_study.specs.Sources.{Stream, Hands, IsOver, Gives}
+use Rattle.ltd_study.specs.Sources.{Stream, Hands, IsOver, Gives, Handed}
+use Rattle.ltd_study.proofs.Answers.{both}
+
+-- what a read promises can be kept, whatever is left: by one byte at a time
+one-handed : (byte : ℕ) (rest more : List ℕ) (fails : Bool)
+    → Handed (Some (record { bytes = byte ∷ rest; fails = fails })) (Some (record { bytes = rest; fails = fails })) (byte ∷ more) (record { count = 1; over = false; failed = false })
+one-handed byte rest more fails =
+    record { within = omega arith; some = λ _. omega arith; none = λ t. both (sym t); handed = (refl, refl); over = λ t. both (sym t) }
+
+end-handed : (bytes : List ℕ) (fails : Bool)
+    → Handed (Some (record { bytes = []; fails = fails })) (Some (record { bytes = []; fails = fails })) bytes (record { count = 0; over = true; failed = fails })
+end-handed bytes fails = record { within = omega arith; some = λ t. both t; none = λ _. refl; handed = (refl, refl); over = λ _ _. (refl, refl) }
 
 pub hands-none : (a : Option Stream) → Hands a [] a
 hands-none None = tt
