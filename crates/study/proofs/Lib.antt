@@ -6,7 +6,7 @@
 -- theorem. `Weights`: claims that weigh one each. `Members`: the claims of a list. `TakenBack`: claims withdrawn. `OwnShare`, `Withdrawals`: what a
 -- withdrawal's code computes. `PreparedWithdrawing`: withdrawing with a table of either kind. `Joins`: what a join tests and adds. `Filled`: an array that
 -- one closure's calls fill. `Pooling`: two studies joined. `Groupings`: pools in any tree. `PoolOrders`: in any order. `Returned`: what every study that a
--- call returns has.
+-- call returns has. `Closings`: no more closings than claims taken.
 pub mod Algebra
 pub mod SumOver
 mod Places
@@ -35,3 +35,4 @@ mod Filled
 pub mod Groupings
 pub mod PoolOrders
 pub mod Returned
+pub mod Closings

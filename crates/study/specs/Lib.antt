@@ -4,6 +4,7 @@ pub mod Sums
 pub mod Study
 pub mod PreparedAdding
 pub mod Weighting
+pub mod Closings
 pub mod DefinitionChange
 pub mod Demand3
 pub mod Withdrawing
