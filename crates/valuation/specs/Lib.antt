@@ -6,5 +6,6 @@ pub mod LimitAnswers
 pub mod ReserveLimit
 pub mod WantedCount
 pub mod StudyFactor
+pub mod DefinitionChange
 pub mod Example
 pub mod Private
