@@ -16,6 +16,7 @@ use lib.Ieee.Back.{round_whole}
 use Rattle.basics.specs.Pick.{pick}
 use Rattle.basics.proofs.Tests.{tests, by, and_left, and_right}
 use Rattle.valuation.specs.Reserve.{float, start, month, running, reserve_of, discount_sound, reserve_check, reserve_in}
+use Rattle.valuation.specs.Number.{FactorIsNumber}
 use Rattle.valuation.proofs.ReserveLaws.{reserve-passed}
 use Rattle.valuation.specs.declared.Reserve.TheVariants.{Factor, Refused}
 use Rattle.valuation.specs.declared.reserve_factor.Running.{Running}
@@ -174,9 +175,7 @@ module _ (rates : List ℕ) (cell first : ℕ) (t : List ℕ) (v : Float) (passe
   factor-number months = number _ (factor-not-negative months)
 
 -- so no answer of the call carries a NaN
-pub answer-number :
-    (rates : List ℕ) (cell first : ℕ) (t : List ℕ) (months : ℕ) (v x : Float) → reserve_in rates cell first t months v ≡ Factor x
-    → is_nan x ≡ false
+pub answer-number : FactorIsNumber
 unfolding reserve_in
 answer-number rates cell first t months v x =
     by (eqb k 0) (λ s. pick s (Factor y) (Refused k) ≡ Factor x → is_nan x ≡ false)

@@ -16,12 +16,12 @@ pub record IsSmallest (P : ℕ → Bool) (r : ℕ) : Type 0 where
   pub has : P r ≡ true
   pub best : (k : ℕ) → P k ≡ true → r ≤ k
 
--- the largest number up to n with a property that 0 has (`largest-is` in proofs/ shows that it is)
+-- the largest number up to n with a property that 0 has (`BestNumbers` says of the call's z that it is)
 unfoldable pub largest : (ℕ → Bool) → ℕ → ℕ
 largest P zero = 0
 largest P (suc n) = pick (P (suc n)) (suc n) (largest P n)
 
--- the smallest number with a property that n has (`smallest-is` in proofs/ shows that it is)
+-- the smallest number with a property that n has (`BestNumbers` says of m's r that it is)
 unfoldable pub smallest : (ℕ → Bool) → ℕ → ℕ
 smallest P zero = 0
 smallest P (suc n) = pick (P (smallest P n)) (smallest P n) (suc n)
