@@ -1,5 +1,6 @@
--- `Text`: what the program prints. `Digits`, `Counts`: a number's digits, and the bytes lent of a list. `Private`: what only private functions' contracts need.
+-- `Text`: what the program prints. `Factors`: each of its lines has its T. `Digits`, `Counts`: a number's digits, and the bytes lent of a list. `Private`: what only private functions' contracts need.
 pub mod Text
+pub mod Factors
 pub mod Digits
 pub mod Counts
 pub mod Private
