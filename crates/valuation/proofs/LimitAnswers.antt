@@ -1,11 +1,11 @@
 -- Both totals claim by claim, and which tests lead to which answer of the call for the limit. Assumes nothing.
-use Prim.Native.Nat.{ℕ, zero, suc, ◌+◌, ◌≤◌}
+use Prim.Native.Nat.{ℕ, zero, suc, ◌+◌, ◌≤◌, ◌<◌}
 use mathlib.Core.Path.{◌≡◌, refl, sym, ap, ◌∙◌}
 use mathlib.Core.Bool.{true, false}
 use mathlib.Core.List.{List}
 use native.Mathlib.Numerals.{add-one}
 use native.Mathlib.Omega.{arith}
-use borrow.Author.Tests.{eqb-true, eqb-false, eq-eqb, ne_eqb}
+use borrow.Author.Tests.{eqb-true, eqb-false, eq-eqb, ne_eqb, le-ltb, lt-ltb}
 use lib.Dec.{eqb}
 use lib.Ieee.{Float, binary64, add, lt}
 use Rattle.basics.specs.Checks.{◌then◌}
@@ -16,7 +16,7 @@ use Rattle.basics.specs.declared.refusal.Refusal.TheVariants.{OpenClaims}
 use Rattle.basics.specs.Refused.{number_of}
 use Rattle.std.specs.Prelude.{Ok, Err}
 use Rattle.rates.specs.Rates.{rate_check}
-use Rattle.valuation.specs.Reserve.{reserve_of, discount_sound}
+use Rattle.valuation.specs.Reserve.{reserve_of, discount_sound, reserve_check}
 use Rattle.valuation.specs.ReserveLimit.{
   claim_cell,
   next_duration,
@@ -44,6 +44,23 @@ pub claim-passed :
 unfolding open_claim_check
 claim-passed rates list v n e =
     reserve-passed rates (claim_cell list n) (next_duration list n) (months_left list n) v (then-passed _ _ e).0
+
+-- 17 answers a duration of 24 or less where the factor call refused nothing
+module _ (rates list : List ℕ) (v : Float) (n : ℕ) where
+  abbrev factor-check : ℕ
+  factor-check = reserve_check rates (claim_cell list n) (next_duration list n) (months_left list n) v
+
+  pub open-refused : (r : Refusal) → number_of r ≡ factor-check → number_of r ≡ open_claim_check rates list v n
+  unfolding open_claim_check
+  open-refused r e = e ∙ sym (then-fails factor-check _ (not-zero r factor-check e))
+
+  pub open-short : 0 ≡ factor-check → next_duration list n ≤ 24 → 17 ≡ open_claim_check rates list v n
+  unfolding open_claim_check
+  open-short e l = rw (then_next factor-check _ (sym e), le-ltb 24 (next_duration list n) l)
+
+  pub open-passed : 0 ≡ factor-check → 24 < next_duration list n → 0 ≡ open_claim_check rates list v n
+  unfolding open_claim_check
+  open-passed e l = rw (then_next factor-check _ (sym e), lt-ltb 24 (next_duration list n) l)
 
 module _ (rates list t other : List ℕ) (v : Float) where
   abbrev checks : ℕ → ℕ

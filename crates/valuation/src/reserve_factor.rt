@@ -85,7 +85,7 @@ impl CheckedMonths<'_> {
 
 // The first of the checks 6 to 8, 12 and 13 that fails.
 // Kept: behind its checks what travels together is `CheckedMonths`; before them these are the parameters of `reserve_factor`, which is public.
-pub(crate) fn reserve_check(
+fn reserve_check(
     rates: &[u32],
     cell: Cell,
     first: Duration,

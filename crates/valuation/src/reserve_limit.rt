@@ -1,14 +1,12 @@
 // The 1.30 limit judged on the total reserves of open claims disabled over two years (document 02, No. 9).
-ghost use Rattle.std.specs.Prelude.{◌≡◌, ◌+◌, ◌<◌, ltb, Ok};
-ghost use Rattle.basics.specs.Checks.{check, ◌then◌, refuse_open_claims};
-ghost use Rattle.basics.specs.Refused.{numbered, number_refused};
-ghost use Rattle.valuation.specs.Reserve.{reserve_check};
+ghost use Rattle.std.specs.Prelude.{◌≡◌, ◌+◌, ◌<◌, Ok};
+ghost use Rattle.basics.specs.Refused.{numbered, number_of};
 ghost use Rattle.valuation.specs.LimitAnswers.{limit_by_number};
 ghost use Rattle.valuation.specs.ReserveLimit.{claims_open_in, replaced_t, limit_of};
-ghost use Rattle.valuation.specs.Private.{totals_of};
+ghost use Rattle.valuation.specs.Private.{handed_on, totals_of};
 
-use crate::Limit;
-use crate::reserve_factor::{CheckedMonths, reserve_check};
+use crate::reserve_factor::{CheckedMonths, reserve_factor};
+use crate::{Limit, Reserve};
 use basics::Duration;
 use basics::refusal::Refusal;
 use rates::Cell;
@@ -35,24 +33,20 @@ fn replaced_t(t: [u64; 5], count: u64) -> [u64; 5]
     [first, second, LIMIT, LIMIT, LIMIT]
 }
 
-// The checks of one open claim: those of the reserve factor, and after them its duration.
-fn claim_check(
-    rates: &[u32],
-    cell: Cell,
-    first: Duration,
-    months: u32,
-    v: f64,
-) -> Result<(), Refusal>
-    ensures { number_refused result ≡ (reserve_check rates.now cell.0 first.0 months v then check (ltb 24 first.0) refuse_open_claims) }
+// The refusal that the factor call handed on by its number: 6, 7, 8, 12 or 13.
+fn handed_on(number: u8) -> Refusal
+    ensures { number_of result ≡ handed_on number }
 {
-    reserve_check(rates, cell, first, months, v)?;
-    if first.0 <= 24 {
-        return Err(Refusal::OpenClaims);
+    match number {
+        6 => Refusal::RateTable,
+        7 => Refusal::Cell,
+        8 => Refusal::Rate,
+        12 => Refusal::Valuation,
+        _ => Refusal::Discount,
     }
-    Ok(())
 }
 
-// Both totals with one more claim, which is checked first.
+// Both totals with one more claim: the factor call checks it and has its factor with the given T; then its duration is checked, and it has the other.
 fn with_claim(
     totals: Totals,
     rates: &[u32],
@@ -69,20 +63,26 @@ fn with_claim(
     let cell = Cell(list[3 * place]);
     let first = Duration(list[3 * place + 1]);
     let months = list[3 * place + 2];
-    claim_check(rates, cell, first, months, v)?;
-    let checked = CheckedMonths {
-        rates,
-        cell,
-        first,
-        months,
-        v,
-    };
-    let given = checked.after(t);
-    let replaced = checked.after(other);
-    Ok(Totals {
-        given: totals.given + given.sum,
-        replaced: totals.replaced + replaced.sum,
-    })
+    match reserve_factor(rates, cell, first, t, months, v) {
+        Reserve::Refused(number) => Err(handed_on(number)),
+        Reserve::Factor(given) => {
+            if first.0 <= 24 {
+                return Err(Refusal::OpenClaims);
+            }
+            let checked = CheckedMonths {
+                rates,
+                cell,
+                first,
+                months,
+                v,
+            };
+            let replaced = checked.after(other);
+            Ok(Totals {
+                given: totals.given + given,
+                replaced: totals.replaced + replaced.sum,
+            })
+        }
+    }
 }
 
 // Both totals of all claims, in list order, up to the first that fails a check.
