@@ -17,6 +17,7 @@ use calendar::Day;
 use claim_months::Window;
 use claim_months::windows::window_months;
 use rates::Kind;
+use rates::prepared::rate_table;
 use study::Study;
 use study::adding::add_to;
 use study::sums::{clear, has_room_for_block, has_still_room};
@@ -145,6 +146,7 @@ pub fn feed_lent(
     if from.stop.is_some() {
         return from;
     }
+    let table = rate_table(kind, table);
     let mut run = from;
     let mut at = 0;
     // Kept: document 01 names this form, two loops that the label leaves at the first refusal.
@@ -162,7 +164,7 @@ pub fn feed_lent(
         for place in 0..count {
             let claim = claim_at(part, place);
             let room = has_still_room(spare, sums);
-            if let Err(refusal) = add_to(kind, table, claim, window, taken, room, sums) {
+            if let Err(refusal) = add_to(&table, claim, window, taken, room, sums) {
                 run = run.stopped(taken, refusal, place + 1);
                 break 'file;
             }

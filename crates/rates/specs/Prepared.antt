@@ -54,6 +54,11 @@ prepared_check table cell =
     then check (ltb cell (cells (numbers_of_cell table))) refuse_cell
     then check (leb (get_or table (cell * cell_numbers) 0) 1000000) refuse_rate
 
+-- How many cells a table of either kind has, looked at once for many claims: none where its length or its mark is not that of its kind
+unfoldable pub cells_of : Kind → List ℕ → ℕ
+cells_of Plain table = pick (table_sound table) (cells table) 0
+cells_of Prepared table = pick (marked table 1) (cells (numbers_of_cell table)) 0
+
 -- The rate at a duration of running sums that start at a place: what is added there; a later duration than 480 uses 480's
 unfoldable pub sum_before : List ℕ → ℕ → ℕ → ℤ
 sum_before table at zero = pos 0

@@ -20,6 +20,7 @@ pub struct Cell(pub u32);
 
 // Whether a lent table holds rates or was prepared.
 // Kept: kind and table are two parameters, as in the definitions and in public functions; an enum that holds the table would ask callers for another type.
+// What is asked again and again of one table takes a `RateTable`.
 // Functions without a kind, as `add` beside `add_with`, are public and promised for plain rates.
 #[derive(Clone, Copy)]
 pub enum Kind {
@@ -97,21 +98,11 @@ pub(crate) fn is_table(numbers: usize) -> bool
 }
 
 // The first of the checks 6 to 8 that fails for a table and a cell.
+#[tactic(auto, unfolding(crate::specs::Prepared::table_check_of))]
 pub fn check(rates: &[u32], cell: Cell) -> Result<(), Refusal>
     ensures { number_refused result ≡ rate_check rates.now cell.0 }
 {
-    if !is_table(rates.len()) {
-        return Err(Refusal::RateTable);
-    }
-    if cell.0 as usize >= rates.len() / CELL_NUMBERS {
-        return Err(Refusal::Cell);
-    }
-    let from = cell.0 as usize * CELL_NUMBERS;
-    let to = from + CELL_NUMBERS;
-    if sound(&rates[from..to]) {
-        return Ok(());
-    }
-    Err(Refusal::Rate)
+    prepared::check_of(&prepared::rate_table(Kind::Plain, rates), cell)
 }
 
 // 1 where a duration is above another, else 0.

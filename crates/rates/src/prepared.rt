@@ -3,9 +3,10 @@ ghost use Rattle.std.specs.Prelude.{◌≡◌, ℕ, ◌+◌, ◌-◌, ◌*◌, �
 ghost use Rattle.basics.specs.Limits.{cell_numbers};
 ghost use Rattle.basics.specs.Refused.{number_refused};
 ghost use Rattle.rates.specs.Rates.{recovery_rate, death_rate};
-ghost use Rattle.rates.specs.Prepared.{running_from, prepared_cell, marked, prepare_check, prepare_after, prepared_check, sum_before, table_check_of, recovery_of, death_of, rates_over, part_recovery, part_death};
+ghost use Rattle.rates.specs.Private.{formed, part_sound_of};
+ghost use Rattle.rates.specs.Prepared.{running_from, prepared_cell, marked, prepare_check, prepare_after, cells_of, sum_before, table_check_of, recovery_of, death_of, rates_over, part_recovery, part_death};
 
-use crate::{Cell, Kind, RateSums, check, is_table, place_of, sound};
+use crate::{Cell, Kind, RateSums, is_table, place_of, sound};
 use basics::Duration;
 use basics::limits::CELL_NUMBERS;
 use basics::refusal::Refusal;
@@ -66,32 +67,77 @@ pub fn prepare(table: &mut [u32]) -> Result<(), Refusal>
     Ok(())
 }
 
-// The checks 6 to 8 with a prepared table.
-fn check_prepared(table: &[u32], cell: Cell) -> Result<(), Refusal>
-    ensures { number_refused result ≡ prepared_check table.now cell.0 }
-{
-    if !is_marked(table, 1) {
-        return Err(Refusal::RateTable);
-    }
-    if cell.0 as usize >= (table.len() - 1) / CELL_NUMBERS {
-        return Err(Refusal::Cell);
-    }
-    let first = cell.0 as usize * CELL_NUMBERS;
-    if table[first] > 1000000 {
-        return Err(Refusal::Rate);
-    }
-    Ok(())
+// A table of either kind, with how many cells it has: looked at once for many claims.
+#[derive(Clone, Copy)]
+pub struct RateTable<'a> {
+    pub kind: Kind,
+    pub numbers: &'a [u32],
+    cells: u32,
+    ghost looked_at: { cells ≡ cells_of kind numbers.now },
 }
 
-// The first of the checks 6 to 8 that fails for a table of either kind and a cell.
-#[tactic(auto, unfolding(crate::specs::Prepared::table_check_of))]
-pub fn check_of(kind: Kind, table: &[u32], cell: Cell) -> Result<(), Refusal>
-    ensures { number_refused result ≡ table_check_of kind table.now cell.0 }
+// Whether a table has the length and the mark of its kind.
+#[tactic(auto, unfolding(crate::specs::Private::formed))]
+fn is_formed(kind: Kind, table: &[u32]) -> bool
+    ensures { result ≡ formed kind table.now }
 {
     match kind {
-        Kind::Plain => check(table, cell),
-        Kind::Prepared => check_prepared(table, cell),
+        Kind::Plain => is_table(table.len()),
+        Kind::Prepared => is_marked(table, 1),
     }
+}
+
+// How many cells a table of either kind has; none where its length or its mark is not that of its kind.
+fn cells_of(kind: Kind, table: &[u32]) -> u32
+    ensures { result ≡ cells_of kind table.now }
+{
+    if is_formed(kind, table) {
+        return (table.len() / CELL_NUMBERS) as u32;
+    }
+    0
+}
+
+// Any numbers looked at as a table of a kind.
+pub fn rate_table(kind: Kind, numbers: &[u32]) -> RateTable<'_>
+    ensures kind_value { result.kind ≡ kind }
+    ensures numbers_value { result.numbers.now ≡ numbers.now }
+{
+    let cells = cells_of(kind, numbers);
+    RateTable {
+        kind,
+        numbers,
+        cells,
+    }
+}
+
+// Check 8 of a cell's part. Of a prepared table the cell's first number tells.
+#[tactic(auto, unfolding(crate::specs::Private::part_sound_of))]
+fn part_sound(kind: Kind, part: &[u32]) -> bool
+    requires { length part.now ≡ cell_numbers }
+    ensures { result ≡ part_sound_of kind part.now }
+{
+    match kind {
+        Kind::Plain => sound(part),
+        Kind::Prepared => part[0] <= 1000000,
+    }
+}
+
+// The first of the checks 6 to 8 that fails for a table that was looked at and a cell.
+pub fn check_of(table: &RateTable, cell: Cell) -> Result<(), Refusal>
+    ensures { number_refused result ≡ table_check_of table.now.kind table.now.numbers.now cell.0 }
+{
+    if table.cells == 0 {
+        return Err(Refusal::RateTable);
+    }
+    if cell.0 >= table.cells {
+        return Err(Refusal::Cell);
+    }
+    let from = cell.0 as usize * CELL_NUMBERS;
+    let to = from + CELL_NUMBERS;
+    if part_sound(table.kind, &table.numbers[from..to]) {
+        return Ok(());
+    }
+    Err(Refusal::Rate)
 }
 
 // The running sum before a place of the sums that start at a number; 0 before the first.

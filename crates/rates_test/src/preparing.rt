@@ -1,7 +1,7 @@
 // Prints what preparing makes of a table of 65 cells, and the checks and sums of a table of either kind.
 use basics::Duration;
 use basics::refusal::number_refused;
-use rates::prepared::{check_of, prepare, rates_over};
+use rates::prepared::{check_of, prepare, rate_table, rates_over};
 use rates::{Cell, Kind};
 use std::io;
 use test_support::numbers::bits;
@@ -20,8 +20,9 @@ fn prepare_start(rt: &impl Print, list: &mut [u32], count: usize) -> io::Result<
 fn check_start(rt: &impl Print, kind: Kind, list: &[u32], count: usize) -> io::Result<()> {
     if let Some(table) = list.get(..count) {
         put(rt, b"checks")?;
+        let looked_at = rate_table(kind, table);
         for cell in [0, 1, 64, 65, 1023, 1024, u32::MAX] {
-            put_next(rt, number_refused(check_of(kind, table, Cell(cell))) as u64)?;
+            put_next(rt, number_refused(check_of(&looked_at, Cell(cell))) as u64)?;
         }
         put(rt, b"\n")?;
     }

@@ -14,51 +14,50 @@ use basics::refusal::Refusal;
 use claim_months::Claim;
 use claim_months::weight::weight_of;
 use claim_months::windows::{WindowMonths, window_months};
+use rates::prepared::{RateTable, check_of, rate_table};
 use rates::{Cell, Kind};
 
 // The checks 6 to 9, told whether the lent sums are within their bounds, and a sound claim's share added to them.
 fn add_span(
-    kind: Kind,
-    table: &[u32],
+    table: &RateTable,
     cell: Cell,
     share: Share,
     taken: u32,
     room: bool,
     sums: &mut [i64; 80],
 ) -> Result<(), Refusal>
-    ensures value { number_refused result ≡ span_number taken room kind table.now cell.0 }
-    ensures sums_after { sums.new ≡ span_sums taken room sums.old kind table.now cell.0 share.span share.weight }
+    ensures value { number_refused result ≡ span_number taken room table.now.kind table.now.numbers.now cell.0 }
+    ensures sums_after { sums.new ≡ span_sums taken room sums.old table.now.kind table.now.numbers.now cell.0 share.span share.weight }
 {
-    rates::prepared::check_of(kind, table, cell)?;
+    check_of(table, cell)?;
     if taken >= MOST_CLAIMS || !room {
         return Err(Refusal::Full);
     }
     let from = cell.0 as usize * CELL_NUMBERS;
     let to = from + CELL_NUMBERS;
-    share.add_months(kind, &table[from..to], sums);
+    share.add_months(table.kind, &table.numbers[from..to], sums);
     share.add_closing(sums);
     Ok(())
 }
 
-// Adds a claim to a study whose window was looked at and whose sums are lent, told whether they are within the bounds of refusal 9. A refusal leaves
-// the sums as they were.
+// Adds a claim to a study whose sums are lent, told whether they are within the bounds of refusal 9; table and window were looked at before. A refusal
+// leaves the sums as they were.
 pub fn add_to(
-    kind: Kind,
-    table: &[u32],
+    table: &RateTable,
     claim: Claim,
     window: WindowMonths,
     taken: u32,
     room: bool,
     sums: &mut [i64; 80],
 ) -> Result<(), Refusal>
-    ensures value { number_refused result ≡ (added_to_lent room kind table.now claim (lent_study window.window taken sums.old)).refused }
-    ensures sums_after { sums.new ≡ (added_to_lent room kind table.now claim (lent_study window.window taken sums.old)).study.sums }
+    ensures value { number_refused result ≡ (added_to_lent room table.now.kind table.now.numbers.now claim (lent_study window.window taken sums.old)).refused }
+    ensures sums_after { sums.new ≡ (added_to_lent room table.now.kind table.now.numbers.now claim (lent_study window.window taken sums.old)).study.sums }
 {
     let span = claim_months::exposure::span_in(claim, window)?;
     let cell = claim.cell as u32;
     let weight = weight_of(claim);
     let share = Share { span, weight };
-    add_span(kind, table, Cell(cell), share, taken, room, sums)
+    add_span(table, Cell(cell), share, taken, room, sums)
 }
 
 impl Study {
@@ -77,9 +76,10 @@ impl Study {
         ensures { by_number result ≡ added_with kind self claim table.now }
     {
         let mut sums = self.sums;
+        let table = rate_table(kind, table);
         let window = window_months(self.window);
         let room = has_room(&sums);
-        if let Err(refusal) = add_to(kind, table, claim, window, self.taken, room, &mut sums) {
+        if let Err(refusal) = add_to(&table, claim, window, self.taken, room, &mut sums) {
             return self.refused(refusal);
         }
         Answer {

@@ -15,6 +15,7 @@ use basics::refusal::Refusal;
 use claim_months::Claim;
 use claim_months::windows::window_months;
 use rates::Kind;
+use rates::prepared::rate_table;
 
 // Whether no count falls below zero if a share is taken off.
 // Kept: the place says which column it is; a `zip` with it numbered has a place beside a pair.
@@ -45,8 +46,9 @@ impl Study {
         ensures { by_number result ≡ withdrawn_with kind self claim table.now }
     {
         let mut share = [0; 80];
+        let table = rate_table(kind, table);
         let window = window_months(self.window);
-        if let Err(refusal) = add_to(kind, table, claim, window, 0, true, &mut share) {
+        if let Err(refusal) = add_to(&table, claim, window, 0, true, &mut share) {
             return self.refused(refusal);
         }
         if let Err(refusal) = last_checks(self.taken, &self.sums, &share) {

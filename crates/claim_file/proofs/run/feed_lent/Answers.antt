@@ -18,7 +18,7 @@ use Rattle.basics.proofs.Tables.{at-most-list}
 use Rattle.study.specs.declared.Study.{Study}
 use Rattle.study.specs.Answers.{Answer}
 use Rattle.study.specs.Sums.{within}
-use Rattle.study.specs.PreparedAdding.{lent_study, room_for}
+use Rattle.study.specs.PreparedAdding.{lent_study, room_for, added_to_lent}
 use Rattle.study.proofs.EitherTable.{lent-kept, lent-refused, lent-taken, lent-room, lent-spare}
 use Rattle.study.proofs.LentSums.{spare-told}
 use Rattle.claim_file.specs.Runs.{FileRun}
@@ -96,6 +96,12 @@ module _ (c : After-add_to) where
   abbrev number : ℕ
   number = number_refused c.add_to.result
 
+  value-so : number ≡ (added_to_lent c.has_still_room-room.result c.args.kind c.args.table.now c.claim_at-claim.result so_far).refused
+  value-so = rw (c.rate_table-table.ensures.kind_value, c.rate_table-table.ensures.numbers_value) at c.add_to.ensures.value
+
+  sums-so : after ≡ (added_to_lent c.has_still_room-room.result c.args.kind c.args.table.now c.claim_at-claim.result so_far).study.sums
+  sums-so = rw (c.rate_table-table.ensures.kind_value, c.rate_table-table.ensures.numbers_value) at c.add_to.ensures.sums_after
+
   -- what adding the block's claim answers
   abbrev added : Answer
   added = adding_with c.args.kind c.args.table.now so_far (block_claim (take (c.block_end-end.result - c.file.at) (drop c.file.at c.args.bytes.now)) c.loop-place.place)
@@ -105,26 +111,26 @@ module _ (c : After-add_to) where
   looked-so = spare-told (15 - c.loop-place.place) c.loop-place.sums _ _ c.loop-place.invariant.2 c.has_still_room-room.ensures
 
   room-so : number ≡ 0 → c.loop-place.taken < 500000
-  room-so h = lent-room _ so_far c.claim_at-claim.result _ _ looked-so _ after c.add_to.ensures.value c.add_to.ensures.sums_after h
+  room-so h = lent-room _ so_far c.claim_at-claim.result _ _ looked-so _ after value-so sums-so h
 
   kept-so : (number ≡ 0 → ⊥) → after ≡ c.loop-place.sums
-  kept-so h = lent-kept _ so_far c.claim_at-claim.result _ _ looked-so _ after c.add_to.ensures.value c.add_to.ensures.sums_after h
+  kept-so h = lent-kept _ so_far c.claim_at-claim.result _ _ looked-so _ after value-so sums-so h
 
   spare-so : c.loop-place.place < 15 → c.has_room_for_block-spare.result ≡ true → room_for (15 - (c.loop-place.place + 1)) after ≡ true
   spare-so low h =
       let left : 15 - c.loop-place.place ≡ suc (15 - (c.loop-place.place + 1)) = omega (arith, low) in
       let table-small : all_at_most 4294967295 c.args.table.now ≡ true = at-most-list 4294967295 c.args.table.now (λ k _. omega (arith, c.type_inv.table k)) in
-      lent-spare _ so_far c.claim_at-claim.result _ _ looked-so _ after c.add_to.ensures.value c.add_to.ensures.sums_after
+      lent-spare _ so_far c.claim_at-claim.result _ _ looked-so _ after value-so sums-so
       (15 - (c.loop-place.place + 1)) (omega arith) table-small (rw left at (c.loop-place.invariant.2 h))
 
   taken-so : number ≡ 0 → record { refused = 0; study = lent_study so_far.window (so_far.taken + 1) after } ≡ added
   taken-so h =
-      lent-taken _ so_far c.claim_at-claim.result _ _ looked-so _ after c.add_to.ensures.value c.add_to.ensures.sums_after h
+      lent-taken _ so_far c.claim_at-claim.result _ _ looked-so _ after value-so sums-so h
       ∙ ap (adding_with c.args.kind c.args.table.now so_far) c.claim_at-claim.ensures
 
   refused-so : (number ≡ 0 → ⊥) → record { refused = number; study = so_far } ≡ added
   refused-so h =
-      lent-refused _ so_far c.claim_at-claim.result _ _ looked-so _ after c.add_to.ensures.value c.add_to.ensures.sums_after h
+      lent-refused _ so_far c.claim_at-claim.result _ _ looked-so _ after value-so sums-so h
       ∙ ap (adding_with c.args.kind c.args.table.now so_far) c.claim_at-claim.ensures
 
 pub returns-then-is_some : goal.returns-then-is_some

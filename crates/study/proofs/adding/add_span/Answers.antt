@@ -19,7 +19,7 @@ returns-in_err-check_of c =
 
 pub returns-then-taken-ge-MOST_CLAIMS : goal.returns-then-taken-ge-MOST_CLAIMS
 returns-then-taken-ge-MOST_CLAIMS c =
-    let passed : let a = c.args in table_check_of a.kind a.table.now a.cell.0 ≡ 0 = sym c.in_ok-check_of.ensures in
+    let passed : let a = c.args in table_check_of a.table.now.kind a.table.now.numbers.now a.cell.0 ≡ 0 = sym c.in_ok-check_of.ensures in
     elim c.then-taken-ge-MOST_CLAIMS.branch [
       | then-taken-ge-MOST_CLAIMS-via-then-taken-ge-MOST_CLAIMS w ↦ let rest = many-taken _ _ _ _ _ _ _ _ passed (omega arith) in record { value = rest.0; sums_after = rest.1 }
       | then-taken-ge-MOST_CLAIMS-via-else-taken-ge-MOST_CLAIMS+then-not-room w ↦ let rest = no_room _ _ _ _ _ _ _ _ passed w.if-not-room.true in record { value = rest.0; sums_after = rest.1 }
@@ -27,13 +27,13 @@ returns-then-taken-ge-MOST_CLAIMS c =
 
 pub slice_bounds-add_months-end : goal.slice_bounds-add_months-end
 slice_bounds-add_months-end c =
-    let passed : let a = c.args in table_check_of a.kind a.table.now a.cell.0 ≡ 0 = sym c.in_ok-check_of.ensures in
-    let whole : let a = c.args in a.cell.0 * 958 + 958 ≤ length a.table.now = let a = c.args in cell-within a.kind a.table.now a.cell.0 passed in
+    let passed : let a = c.args in table_check_of a.table.now.kind a.table.now.numbers.now a.cell.0 ≡ 0 = sym c.in_ok-check_of.ensures in
+    let whole : let a = c.args in a.cell.0 * 958 + 958 ≤ length a.table.now.numbers.now = let a = c.args in cell-within a.table.now.kind a.table.now.numbers.now a.cell.0 passed in
     omega (arith, whole)
 
 pub returns : goal.returns
 returns c =
-    let passed : let a = c.args in table_check_of a.kind a.table.now a.cell.0 ≡ 0 = sym c.in_ok-check_of.ensures in
-    let a = c.args in let rest = span-taken _ _ _ _ _ _ _ _ passed (omega (arith, c.if-taken-ge-MOST_CLAIMS.false)) c.if-not-room.false _ _ _ (lent-part a.table.now a.cell.0)
+    let passed : let a = c.args in table_check_of a.table.now.kind a.table.now.numbers.now a.cell.0 ≡ 0 = sym c.in_ok-check_of.ensures in
+    let a = c.args in let rest = span-taken _ _ _ _ _ _ _ _ passed (omega (arith, c.if-taken-ge-MOST_CLAIMS.false)) c.if-not-room.false _ _ _ (lent-part a.table.now.numbers.now a.cell.0)
     c.add_months.ensures c.add_closing.ensures in
     record { value = rest.0; sums_after = rest.1 }

@@ -21,12 +21,12 @@ pub returns : goal.returns
 returns c =
     let study : Study = lent_study c.args.window.window c.args.taken c.args.sums.now in
     let r = c.add_span.ensures in
-    let rest = with-span c.args.room c.args.kind c.args.table.now c.args.claim study _ c.in_ok-span.ensures _ _ _ c.weight_of-weight.ensures r.value r.sums_after in
+    let rest = with-span c.args.room c.args.table.now.kind c.args.table.now.numbers.now c.args.claim study _ c.in_ok-span.ensures _ _ _ c.weight_of-weight.ensures r.value r.sums_after in
     record { value = rest.0; sums_after = rest.1 }
 
 pub returns-in_err-span : goal.returns-in_err-span
 returns-in_err-span c =
     let study : Study = lent_study c.args.window.window c.args.taken c.args.sums.now in
-    let rest = without c.args.room c.args.kind c.args.table.now c.args.claim study (number_of c.in_err-span.field-0.0) c.in_err-span.ensures in
+    let rest = without c.args.room c.args.table.now.kind c.args.table.now.numbers.now c.args.claim study (number_of c.in_err-span.field-0.0) c.in_err-span.ensures in
     let p = err_from_is_err_and c.from_residual.result c.from_residual.ensures.1 in
     record { value = rw (p.1, p.2) rest.0; sums_after = rest.1 }
