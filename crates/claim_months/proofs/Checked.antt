@@ -23,7 +23,7 @@ use Rattle.claim_months.specs.Claim.{is_closed, bcd_day, termination_day, first_
 use Rattle.claim_months.specs.ClaimMonths.{bcd_month, start_in}
 use Rattle.claim_months.specs.Windows.{window_sound}
 use Rattle.claim_months.specs.Exposure.{closed_in, exposed_from, exposed_to, closing_u, month_u, closing_category}
-use Rattle.claim_months.specs.Private.{as_day, month_day, with_months, Placed, SoundWindow, starts_of, checked_of, Stands, start_at, start_of, closing_at, closing_within, later_of, from_of, to_at, to_of, closing_of, u_at, last_u_of, category_at, last_category_of}
+use Rattle.claim_months.specs.Private.{as_day, month_day, with_months, Placed, SoundWindow, starts_of, checked_of, Stands, start_at, start_of, closing_at, closing_within, later_of, from_of, to_at, to_of, closing_of, u_at, category_at}
 use Rattle.claim_months.proofs.Picked.{picked, unpicked}
 use Rattle.claim_months.proofs.Sound.{Sound, sound}
 use Rattle.claim_months.proofs.Months.{start-early, start-late, start-low, start-high}
@@ -175,7 +175,7 @@ module _ (c : Claim) (k : CheckedClaim) (s : Stands c k) where
 
   -- of the month that holds l
   pub last-u-is : (w : MonthWindow) (a p : ℕ) → exposed_to c w.last.day.0 ≤ p
-      → last_u_of k w a p ≡ month_u c w.first.day.0 w.last.day.0 a p
+      → u_at (closing_within k.closing w.first.day.0 w.last.day.0) (to_of k w.last).day.0 a p ≡ month_u c w.first.day.0 w.last.day.0 a p
   unfolding u_at month_u
   last-u-is w a p h =
       let b = w.first.day.0 in
@@ -186,7 +186,7 @@ module _ (c : Claim) (k : CheckedClaim) (s : Stands c k) where
       (λ q. closing-u-is a p) (λ q. refl))
 
   pub last-category-is : (w : MonthWindow) (a p : ℕ) → a ≤ exposed_to c w.last.day.0 → exposed_to c w.last.day.0 ≤ p
-      → last_category_of k w ≡ closing_category c w.first.day.0 w.last.day.0 a p
+      → category_at (closing_within k.closing w.first.day.0 w.last.day.0) ≡ closing_category c w.first.day.0 w.last.day.0 a p
   unfolding category_at closing_category exposed_to
   last-category-is w a p f l =
       let b = w.first.day.0 in

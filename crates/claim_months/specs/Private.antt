@@ -152,15 +152,9 @@ unfoldable pub u_at : Option ClaimClosing → ℕ → ℕ → ℕ → ℕ
 u_at None l s p = 30 - (p - l)
 u_at (Some x) l s p = closing_of x s p
 
-abbrev pub last_u_of : CheckedClaim → MonthWindow → ℕ → ℕ → ℕ
-last_u_of k w s p = u_at (closing_within k.closing w.first.day.0 w.last.day.0) (to_of k w.last).day.0 s p
-
 unfoldable pub category_at : Option ClaimClosing → ℕ
 category_at None = 0
 category_at (Some x) = x.category
-
-abbrev pub last_category_of : CheckedClaim → MonthWindow → ℕ
-last_category_of k w = category_at (closing_within k.closing w.first.day.0 w.last.day.0)
 
 -- the claim month that holds a day: it is claim month place + 1
 pub record HoldsDay (c : Claim) (day : ℕ) (r : ClaimMonth) : Type 0 where

@@ -1,9 +1,9 @@
 // The months of exposure of a claim in a window, as a span.
-ghost use Rattle.std.specs.Prelude.{◌≡◌, [], ◌+◌, ◌≤◌};
+ghost use Rattle.std.specs.Prelude.{◌≡◌, [], ◌+◌, ◌≤◌, Some};
 ghost use Rattle.basics.specs.Refused.{numbered};
 ghost use Rattle.claim_months.specs.Exposure.{month_b};
 ghost use Rattle.claim_months.specs.Span.{span_of, span_in};
-ghost use Rattle.claim_months.specs.Private.{closing_within, later_of, from_of, to_of, closing_of, last_u_of, last_category_of, Placed, OfClaim, SoundWindow, BeginsFor, no_begin, MonthsFor};
+ghost use Rattle.claim_months.specs.Private.{closing_within, later_of, from_of, to_of, closing_of, u_at, category_at, Placed, OfClaim, SoundWindow, BeginsFor, no_begin, MonthsFor};
 
 use crate::check::checked;
 use crate::month::claim_month;
@@ -113,24 +113,26 @@ fn closing_u(closing: ClaimClosing, month: ClaimMonth) -> Thirtieths
     Thirtieths(days.min(30))
 }
 
-// U of the month that holds l.
-fn last_u(claim: CheckedClaim, window: MonthWindow, month: ClaimMonth) -> Thirtieths
-    requires first_bound { month.first.0 ≤ (to_of claim window.last).day.0 }
-    requires last_bound { (to_of claim window.last).day.0 ≤ month.last.0 }
-    ensures { result.0 ≡ last_u_of claim window month.first.0 month.last.0 }
+// U of the month that holds l, the termination of a claim closed in the window.
+#[tactic(auto, unfolding(crate::specs::Private::u_at))]
+fn last_u(closed: Option<ClaimClosing>, to: Day, month: ClaimMonth) -> Thirtieths
+    requires closed_to { (x : ClaimClosing) → Some x ≡ closed → x.termination.day.0 ≡ to.0 }
+    requires first_bound { month.first.0 ≤ to.0 }
+    requires last_bound { to.0 ≤ month.last.0 }
+    ensures { result.0 ≡ u_at closed to.0 month.first.0 month.last.0 }
 {
-    match closing_in(claim, window) {
+    match closed {
         Some(closing) => closing_u(closing, month),
-        None => Thirtieths(30 - (month.last.0 - exposed_to(claim, window.last).day.0)),
+        None => Thirtieths(30 - (month.last.0 - to.0)),
     }
 }
 
-// The category of the month that holds l.
+// Its category.
 #[tactic(auto, unfolding(crate::specs::Private::category_at))]
-fn last_category(claim: CheckedClaim, window: MonthWindow) -> u8
-    ensures { result ≡ last_category_of claim window }
+fn last_category(closed: Option<ClaimClosing>) -> u8
+    ensures { result ≡ category_at closed }
 {
-    match closing_in(claim, window) {
+    match closed {
         Some(closing) => closing.category,
         None => 0,
     }
@@ -171,12 +173,13 @@ pub(crate) fn exposed_months(claim: CheckedClaim, window: MonthWindow) -> Expose
     let begin = begin_month(claim, window.first);
     let end = claim_month(claim, to);
     let before = begin.before;
+    let closed = closing_in(claim, window);
     let span = Span {
         first: Duration(claim.first.0 + begin.place),
         months: end.place - begin.place + 1,
         before,
-        through: last_u(claim, window, end),
-        category: last_category(claim, window),
+        through: last_u(closed, to.day, end),
+        category: last_category(closed),
     };
     ExposedMonths { span, begin }
 }

@@ -1,19 +1,27 @@
 -- `claim_months::exposure::exposed_months` meets its contract: the records run from the claim month that holds f to the one that holds l.
 -- Assumes nothing.
 use Prim.Native.Nat.{ℕ, ◌≤◌}
-use mathlib.Core.Path.{◌≡◌, sym, ap, ◌∙◌, subst⁻¹}
+use mathlib.Core.Path.{◌≡◌, sym, ap, ap₂, ◌∙◌, subst⁻¹}
+use mathlib.Core.Bool.{◌&&◌}
 use mathlib.Core.List.{[]}
 use native.Mathlib.Omega.{arith}
+use lib.Dec.{leb, ltb}
+use borrow.Author.Tests.{leb-true}
+use Rattle.std.specs.Prelude.{Option, None, Some}
+use Rattle.basics.specs.Pick.{pick}
+use Rattle.basics.proofs.Tests.{tests, by, and_right}
 use Rattle.claim_months.specs.declared.BeginMonth.{BeginMonth}
 use Rattle.claim_months.specs.declared.CheckedClaim.{CheckedClaim}
 use Rattle.claim_months.specs.declared.Claim.{Claim}
+use Rattle.claim_months.specs.declared.ClaimClosing.{ClaimClosing}
 use Rattle.claim_months.specs.declared.ClaimMonth.{ClaimMonth}
 use Rattle.claim_months.specs.declared.MonthDay.{MonthDay}
 use Rattle.claim_months.specs.declared.MonthWindow.{MonthWindow}
 use Rattle.claim_months.specs.declared.Span.{Span}
 use Rattle.claim_months.specs.Exposure.{exposed_from, exposed_to}
 use Rattle.claim_months.specs.Span.{span_of}
-use Rattle.claim_months.specs.Private.{Placed, SoundWindow, Stands, from_of, to_of, Begins, BeginsFor, HoldsFor}
+use Rattle.claim_months.specs.Private.{Placed, SoundWindow, Stands, from_of, closing_within, to_at, to_of, u_at, category_at, Begins, BeginsFor, HoldsFor}
+use Rattle.claim_months.proofs.Picked.{picked}
 use Rattle.claim_months.proofs.MonthRuns.{records-none}
 use Rattle.claim_months.proofs.Spans.{first-duration}
 use Rattle.claim_months.proofs.Checked.{later-day, claim-sound, first-is, from_is, to_is, to-placed, last-u-is, last-category-is}
@@ -95,13 +103,27 @@ overflow_add-span-2 c =
     c.begin_month-begin.ensures c.claim_month-end.ensures in
     omega (arith, place-high _ _ _ _ _ _ _ r)
 
+-- a claim closed in the window is exposed to its termination
+closed-to : (o : Option ClaimClosing) (b : ℕ) (last : MonthDay) (x : ClaimClosing) → Some x ≡ closing_within o b last.day.0 → x.termination.day.0 ≡ (to_at o last).day.0
+unfolding closing_within to_at
+closed-to None b last x h = absurd (let z : ◌≡◌ {A = ℕ} 0 1 = cc in omega tests)
+closed-to (Some y) b last x h =
+    let t = y.termination.day.0 in
+    let p = picked (leb b t && leb t last.day.0) h (λ e. let z : ◌≡◌ {A = ℕ} 0 1 = cc in omega tests) in
+    let l = leb-true t last.day.0 (and_right (leb b t) (leb t last.day.0) p.0) in
+    let same : x ≡ y = cc in
+    rw same (by (ltb t last.day.0) (λ q. t ≡ (pick q y.termination last).day.0) (λ u. omega tests) (λ u. omega tests))
+
 pub last_u-requires : goal.last_u-requires
 last_u-requires c =
     let o = c.requires.of_claim in
     let r = ends c.args.claim c.args.window _ _ c.exposed_from-from.ensures c.exposed_to-to.ensures o.claim o.stands c.requires.sound_window _ _ c.if-to-from.false
     c.begin_month-begin.ensures c.claim_month-end.ensures in
-    let e = ap day c.exposed_to-to.ensures in
-    record { first_bound = omega (arith, r.end.from); last_bound = omega (arith, r.end.to) }
+    record {
+      closed_to = λ x h. closed-to c.args.claim.closing (day c.args.window.first) c.args.window.last x (h ∙ c.closing_in-closed.ensures) ∙ sym (ap day c.exposed_to-to.ensures);
+      first_bound = omega (arith, r.end.from);
+      last_bound = omega (arith, r.end.to);
+    }
 
 pub returns : goal.returns
 returns c =
@@ -112,7 +134,9 @@ returns c =
           let r = ends c.args.claim w _ _ c.exposed_from-from.ensures c.exposed_to-to.ensures d s c.requires.sound_window _ _ c.if-to-from.false
           c.begin_month-begin.ensures c.claim_month-end.ensures in
           code-span _ _ _ _ _ _ _ r _ _ _ _ (first-is d _ s) (omega arith)
-          (c.last_u.ensures ∙ last-u-is d _ s w y.first.0 y.last.0 (omega (arith, r.end.to, r.to)))
-          (c.last_category.ensures ∙ last-category-is d _ s w y.first.0 y.last.0 (omega (arith, r.end.from, r.to)) (omega (arith, r.end.to, r.to)));
+          (c.last_u.ensures
+          ∙ ap₂ (λ (o : Option ClaimClosing) (l : ℕ). u_at o l y.first.0 y.last.0) c.closing_in-closed.ensures (ap day c.exposed_to-to.ensures)
+          ∙ last-u-is d _ s w y.first.0 y.last.0 (omega (arith, r.end.to, r.to)))
+          (c.last_category.ensures ∙ ap category_at c.closing_in-closed.ensures ∙ last-category-is d _ s w y.first.0 y.last.0 (omega (arith, r.end.from, r.to)) (omega (arith, r.end.to, r.to)));
       begin_is = λ h. c.begin_month-begin.ensures;
     }
