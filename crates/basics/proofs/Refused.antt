@@ -54,7 +54,7 @@ read_back Withdrawal = refl
 read_back NoCount = refl
 read_back Load = refl
 
--- two refusals with one number are one refusal
+-- two refusals with one number are one refusal (for readers)
 pub told-apart : (a b : Refusal) → number_of a ≡ number_of b → a ≡ b
 told-apart a b e = sym (read_back a) ∙ ap refusal_at e ∙ read_back b
 

@@ -2,14 +2,13 @@
 -- Assumes nothing.
 use Prim.Native.Nat.{ℕ, zero, suc, zero-le, ◌+◌, ◌≤◌, ◌<◌}
 use mathlib.Core.Path.{◌≡◌, refl, sym, ap, ap₂, ◌∙◌}
-use mathlib.Core.Bool.{Bool, true, false, ◌&&◌}
+use mathlib.Core.Bool.{Bool, true, ◌&&◌}
 use mathlib.Core.List.{List, [], ◌∷◌}
-use native.Mathlib.Numerals.{add-one}
-use lib.ListN.{length, get_or, set, drop, drop_of_length-le}
+use lib.ListN.{length, get_or, set}
 use lib.Dec.{leb, eqb}
 use lib.IntN.{ℤ, pos, nat_abs}
 use borrow.Author.Tests.{le-leb, leb-true}
-use lib.Seq.{ext_get_or, get_or-set_same, get_or-set_other, drop-cons}
+use lib.Seq.{ext_get_or, get_or-set_same, get_or-set_other}
 use Rattle.basics.proofs.Tests.{tests, by, and_left, and_right}
 use Rattle.basics.specs.Tables.{table, all_within, all_at_most, every_place}
 
@@ -51,11 +50,6 @@ unfolding all_at_most
 at-most-list m [] h = refl
 at-most-list m (x ∷ xs) h = rw (le-leb x m (h zero (omega tests))) (at-most-list m xs (λ k q. h (suc k) (omega tests)))
 
--- the same of a table
-pub within-table : (m n : ℕ) (f : ℕ → ℤ) → ((k : ℕ) → nat_abs (f k) ≤ m) → all_within m (table n f) ≡ true
-within-table m n f h =
-    within-list m (table n f) (λ k q. let l : k < n = omega (tests, table-length n f) in rw (table_at n f k (pos 0) l) (h k))
-
 -- no entry of a list is beyond a bound that all are held to
 pub within-at : (m : ℕ) (l : List ℤ) (k : ℕ) → all_within m l ≡ true → nat_abs (get_or l k (pos 0)) ≤ m
 unfolding all_within
@@ -68,26 +62,6 @@ unfolding all_at_most
 at-most-at m [] k e = omega tests
 at-most-at m (x ∷ xs) zero e = leb-true x m (and_left (leb x m) (all_at_most m xs) e)
 at-most-at m (x ∷ xs) (suc k) e = at-most-at m xs k (and_right (leb x m) (all_at_most m xs) e)
-
--- a walk over a list of n entries that tests each: at place k an entry that fails settles it, one that passes leaves it to those after it, and at the
--- end all have passed
-pub record Walk {A : Type 0} (n : ℕ) (z : A) (f : A → Bool) (all : List A → Bool) (l : List A) (k : ℕ) : Type 0 where
-  pub fails : k < n → f (get_or l k z) ≡ false → false ≡ all l
-  pub goes_on : k < n → f (get_or l k z) ≡ true → all (drop (k + 1) l) ≡ all l
-  pub ends : n ≤ k → true ≡ all l
-
-module _ {A : Type 0} (n : ℕ) (z : A) (f : A → Bool) (all : List A → Bool) (none : all [] ≡ true)
-    (more : (x : A) (xs : List A) → all (x ∷ xs) ≡ (f x && all xs)) (l : List A) (len : length l ≡ n) (k : ℕ) (rest : all (drop k l) ≡ all l) where
-  at_place : k < n → (f (get_or l k z) && all (drop (k + 1) l)) ≡ all l
-  at_place h = sym (rw (drop-cons l k z (omega tests), add-one k) (more (get_or l k z) (drop (suc k) l))) ∙ rest
-
-  pub walk : Walk n z f all l k
-  walk =
-      record {
-        fails = λ h e. rw e at (at_place h);
-        goes_on = λ h e. rw e at (at_place h);
-        ends = λ h. sym none ∙ ap all (sym (drop_of_length-le l {i = k} (omega tests))) ∙ rest;
-      }
 
 -- a list that is filled place by place: with the entry of place k stored, its first k + 1 entries are right
 pub filled_more : {A : Type 0} (f : ℕ → A) (z : A) (l : List A) (k : ℕ) (v : A) → k < length l → ((i : ℕ) → i < k → get_or l i z ≡ f i) → v ≡ f k
@@ -118,7 +92,7 @@ pub step-at : {A : Type 0} (f : ℕ → A → A → Bool) (z : A) (l : List A) �
     → f k (get_or l k z) (get_or l (suc k) z) ≡ true
 step-at f z l e k h = let p : 0 + k ≡ k = omega tests in rw p at (steps-from f z l 0 e k h)
 
--- a test that holds at every place below n holds at each of them; one that fails somewhere doesn't; and two that come out alike do so together
+-- a test that holds at every place below n holds at each of them, and the other way; and two that come out alike do so together
 pub every-at : (n : ℕ) (f : ℕ → Bool) → every_place n f ≡ true → (k : ℕ) → k < n → f k ≡ true
 unfolding every_place
 every-at zero f e k h = absurd (omega tests)
@@ -131,10 +105,6 @@ pub every-is : (n : ℕ) (f : ℕ → Bool) → ((k : ℕ) → k < n → f k ≡
 unfolding every_place
 every-is zero f h = refl
 every-is (suc n) f h = rw (every-is n f (λ k q. h k (omega tests)), h n (omega tests))
-
-pub every-fails : (n : ℕ) (f : ℕ → Bool) (k : ℕ) → k < n → f k ≡ false → every_place n f ≡ false
-every-fails n f k h e =
-    by (every_place n f) (λ t. every_place n f ≡ t → t ≡ false) (λ q u. sym (every-at n f u k h) ∙ e) (λ q u. refl) refl
 
 pub every-same : (n : ℕ) (f g : ℕ → Bool) → ((k : ℕ) → k < n → f k ≡ g k) → every_place n f ≡ every_place n g
 unfolding every_place

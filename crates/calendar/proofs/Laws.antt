@@ -1,4 +1,4 @@
--- The calendar's laws, for the layers above: they cite these and never unfold the calendar's formulas.
+-- The calendar's laws, which this layer's proofs and the layers above cite; `last-date`, `days-rise` and `next-day` are for readers.
 -- Assumes nothing.
 use Prim.Native.Nat.{ℕ, zero, suc, ◌+◌, ◌*◌, ◌-◌, ◌/◌, ◌%◌, ◌≤◌, ◌<◌}
 use mathlib.Core.Path.{◌≡◌, refl, sym, ap, ◌∙◌}
@@ -86,10 +86,6 @@ rise i (suc n) h =
 
 pub months-rise : (i j : ℕ) → first_month ≤ i → i ≤ j → month_start i + 28 * (j - i) ≤ month_start j
 months-rise i j h l = let e : i + (j - i) ≡ j = omega arith in omega (arith, ap month_start e, rise i (j - i) h)
-
-pub first-month : month_start first_month ≡ 0
-unfolding month_start days_before
-first-month = refl
 
 pub end-month : month_start 25200 ≡ 54787
 unfolding month_start_days
