@@ -14,6 +14,7 @@ use Rattle.basics.specs.Pick.{pick}
 use Rattle.basics.specs.Checks.{refuse_too_many_records}
 use Rattle.basics.proofs.Tests.{by}
 use Rattle.study.specs.declared.Study.{Study}
+use Rattle.study.specs.Answers.{Answer}
 use Rattle.claim_file.specs.Runs.{CorrectedRun}
 use Rattle.claim_file.specs.Bytes.{byte_at}
 use Rattle.claim_file.specs.Block.{block_claim, block_sound}
@@ -252,6 +253,25 @@ block-done bytes block b place count h =
 pub file-done : (bytes : List ℕ) (b : ℕ) → length bytes / 512 ≤ b → later_records bytes b ≡ []
 unfolding records_of_blocks
 file-done bytes b h = let p : length bytes / 512 - b ≡ 0 = omega arith in ap (records_from bytes b) p
+
+-- One record added, unless it is superseded
+module _ (add : Adding) (x : PlacedClaim) (t : Bool) (s : Study) where
+  pub none-added : t ≡ true → go s ≡ records_added add s (or_none t x)
+  unfolding records_added
+  none-added e = sym (rw e refl)
+
+  module _ (e : t ≡ false) (a : Answer) (p : a ≡ add s x.claim) where
+    one-so : records_added add s (or_none t x)
+        ≡ pick (eqb a.refused 0) (go a.study) (record { study = a.study; refused = a.refused; block = x.block; place = x.place })
+    unfolding records_added
+    one-so = rw (e, p) refl
+
+    pub one-added : a.refused ≡ 0 → go a.study ≡ records_added add s (or_none t x)
+    one-added h = sym (one-so ∙ rw (eq-eqb a.refused 0 h) refl)
+
+    pub one-refused : (a.refused ≡ 0 → ⊥)
+        → record { study = a.study; refused = a.refused; block = x.block; place = x.place } ≡ records_added add s (or_none t x)
+    one-refused h = sym (one-so ∙ rw (ne_eqb a.refused 0 h) refl)
 
 -- What a run answers behind each check
 module _ (add : Adding) (bytes : List ℕ) where

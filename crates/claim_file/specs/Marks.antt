@@ -3,7 +3,6 @@ use Rattle.std.specs.Prelude.{ℕ, zero, suc, ◌+◌, ◌-◌, ◌*◌, ◌/◌
 use Rattle.basics.specs.Limits.{block_bytes}
 use Rattle.basics.specs.Pick.{pick}
 use Rattle.basics.specs.Checks.{refuse_block}
-use Rattle.claim_months.specs.declared.Claim.{Claim}
 use Rattle.study.specs.Study.{fresh, first_day_alone}
 use Rattle.claim_file.specs.Runs.{CorrectedRun}
 use Rattle.claim_file.specs.Bytes.{byte_at, four_at}
@@ -112,10 +111,6 @@ pub record LaterKey (keys : List ℕ) (key : ℕ) : Type 0 where
 pub record HasLater (keys : List ℕ) (key : ℕ) (r : Bool) : Type 0 where
   pub found : r ≡ true → LaterKey keys key
   pub missed : LaterKey keys key → r ≡ true
-
--- the record at a block's place, or none where it is superseded
-unfoldable pub unless_superseded : Bool → Claim → ℕ → ℕ → List PlacedClaim
-unless_superseded t c b place = pick t [] (record { claim = c; block = b; place = place } ∷ [])
 
 -- a run refused at a block that isn't sound
 unfoldable pub unsound_at : ℕ → CorrectedRun

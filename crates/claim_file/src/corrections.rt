@@ -3,10 +3,11 @@
 ghost use Rattle.std.specs.Prelude.{◌≡◌, true, ◌/◌, ◌≤◌, length};
 ghost use Rattle.basics.specs.Limits.{block_bytes, most_records};
 ghost use Rattle.basics.specs.Refused.{number_of};
+ghost use Rattle.study.specs.PreparedAdding.{lent_study};
 ghost use Rattle.claim_file.specs.Corrections.{file_records, sound_blocks, sound_all, last_ones, records_added, corrected_run_with, corrected_run};
 ghost use Rattle.claim_file.specs.PreparedRuns.{adding_with};
 ghost use Rattle.claim_file.specs.Runs.{corrected_by_number};
-ghost use Rattle.claim_file.specs.Marks.{numbers_of, MarksSuperseded, unless_superseded, unsound_at};
+ghost use Rattle.claim_file.specs.Marks.{numbers_of, MarksSuperseded, unsound_at};
 
 use crate::blocks::{claim_at, is_sound};
 use crate::bytes::date_at;
@@ -14,9 +15,12 @@ use crate::superseded::{Marks, is_marked, mark_superseded, record_count};
 use crate::{CorrectedRun, FileRun, Stop};
 use basics::limits::{BLOCK_BYTES, MOST_RECORDS};
 use basics::refusal::Refusal;
-use claim_months::Claim;
+use claim_months::windows::window_months;
 use rates::Kind;
+use rates::prepared::rate_table;
 use study::Study;
+use study::adding::add_to;
+use study::sums::{has_room_for_block, has_still_room};
 
 // How many of a file's whole blocks are sound, up to the first that isn't.
 #[tactic(auto, using(crate::proofs::CorrectedRuns::sound_steps), unfolding(crate::specs::Bytes::byte_at))]
@@ -58,66 +62,56 @@ fn unsound_at(block: u32) -> CorrectedRun
     refused(FileRun::start().study, Refusal::Block, block, 0)
 }
 
-// One record of a block added to a study, unless a later one corrects it.
-#[tactic(auto, unfolding(crate::specs::Marks::unless_superseded, crate::specs::Corrections::records_added, crate::specs::PreparedRuns::adding_with))]
-fn add_record(
-    kind: Kind,
-    table: &[u32],
-    claim: Claim,
-    block: u32,
-    place: u8,
-    superseded: bool,
-    study: Study,
-) -> CorrectedRun
-    ensures { corrected_by_number result ≡ records_added (adding_with kind table.now) study (unless_superseded superseded claim block place) }
+// A study of the same window with other claims taken.
+fn with_sums(study: Study, taken: u32, sums: [i64; 80]) -> Study
+    ensures { result ≡ lent_study study.window taken sums }
 {
-    if superseded {
-        return CorrectedRun { study, stop: None };
-    }
-    let answer = study.add_with(kind, table, claim);
-    match answer.refused {
-        None => CorrectedRun {
-            study: answer.study,
-            stop: None,
-        },
-        Some(refusal) => refused(answer.study, refusal, block, place),
+    Study {
+        taken,
+        sums,
+        ..study
     }
 }
 
-// The records that are not marked, added to a study up to the first refusal.
+// The records that are not marked, added to a study up to the first refusal. The sums are looked at once for all records of a block where these can't
+// take one past its bound, as in a file run.
 fn add_kept(kind: Kind, table: &[u32], file: &[u8], marks: &Marks, study: Study) -> CorrectedRun
     requires file_value { sound_all file.now ≡ true }
     requires file_len_bound { length (file_records file.now) ≤ most_records }
     requires marks_superseded { MarksSuperseded marks.now (numbers_of (file_records file.now)) }
     ensures { corrected_by_number result ≡ records_added (adding_with kind table.now) study (last_ones (file_records file.now)) }
 {
-    let mut run = CorrectedRun { study, stop: None };
-    let mut index = 0;
+    let table = rate_table(kind, table);
+    let window = window_months(study.window);
+    let mut sums = study.sums;
+    let mut taken = study.taken;
+    let mut next = 0;
     let mut block: u32 = 1;
-    // Kept: the loops and the label of the file run; a block's number has 32 bits, as above.
-    'file: while (block as usize) < file.len() / BLOCK_BYTES {
+    // Kept: the two loops of the file run; a block's number has 32 bits, as above.
+    while (block as usize) < file.len() / BLOCK_BYTES {
         let at = BLOCK_BYTES * block as usize;
         let bytes = &file[at..at + BLOCK_BYTES];
+        let spare = has_room_for_block(&sums);
         let count = bytes[2];
         for place in 0..count {
-            let so_far = run.study;
-            run = add_record(
-                kind,
-                table,
-                claim_at(bytes, place),
-                block,
-                place + 1,
-                is_marked(marks, index),
-                so_far,
-            );
-            if run.stop.is_some() {
-                break 'file;
+            let index = next;
+            next += 1;
+            if is_marked(marks, index) {
+                continue;
             }
-            index += 1;
+            let claim = claim_at(bytes, place);
+            let room = has_still_room(spare, &sums);
+            if let Err(refusal) = add_to(&table, claim, window, taken, room, &mut sums) {
+                return refused(with_sums(study, taken, sums), refusal, block, place + 1);
+            }
+            taken += 1;
         }
         block += 1;
     }
-    run
+    CorrectedRun {
+        study: with_sums(study, taken, sums),
+        stop: None,
+    }
 }
 
 // The run of a whole file with corrections, with a table of either kind.
