@@ -18,7 +18,6 @@ use Rattle.study.specs.Sums.{within}
 use Rattle.study.specs.PreparedAdding.{lent_study, room_for, added_to_lent}
 use Rattle.study.proofs.EitherTable.{lent-kept, lent-refused, lent-taken, lent-room, lent-spare}
 use Rattle.study.proofs.LentSums.{spare-told}
-use Rattle.claim_file.specs.Runs.{CorrectedRun}
 use Rattle.claim_file.specs.Bytes.{byte_at}
 use Rattle.claim_file.specs.Block.{claim_count, block_claim, block_sound}
 use Rattle.claim_file.specs.Run.{Adding}
