@@ -1,5 +1,5 @@
 -- Over the parts of a window, the sums over a sound claim's records total those of the undivided window, and the claim is closed in
--- exactly one part, or in none if it is not closed in the window.
+-- exactly one part, or in none if it is not closed in the window. `parts-closings` is for readers.
 -- Assumes nothing.
 use Prim.Native.Nat.{ℕ, ◌+◌, ◌<◌}
 use mathlib.Core.Path.{◌≡◌, sym, ◌∙◌}

@@ -1,4 +1,5 @@
--- Ranges of the month records: how many, their thirtieths, their durations, and the size of sums over them.
+-- Ranges of the month records: how many, their thirtieths, their durations, and the size of sums over them. `records-length`, `thirtieths-range` and
+-- `durations-low` are for readers.
 -- Assumes nothing.
 use Rattle.calendar.specs.Calendar.{last_day_number}
 use Prim.Native.Nat.{ℕ, zero, suc, ◌+◌, ◌-◌, ◌*◌, ◌≤◌, ◌<◌, min}

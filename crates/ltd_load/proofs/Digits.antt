@@ -2,7 +2,7 @@
 -- Assumes nothing.
 use Prim.Native.Nat.{ℕ, suc, ◌+◌, ◌-◌, ◌*◌, ◌≤◌, ◌<◌}
 use mathlib.Core.Path.{◌≡◌, refl, sym, ap, ◌∙◌}
-use mathlib.Core.Bool.{Bool, true, false, ◌&&◌, and-false, and-eq-true_iff}
+use mathlib.Core.Bool.{Bool, true, false, ◌&&◌, and-false}
 use mathlib.Core.List.{List, [], ◌∷◌}
 use native.Mathlib.Omega.{arith}
 use native.Mathlib.Numerals.{add-one}
@@ -10,7 +10,6 @@ use lib.ListN.{length, get_or, drop, drop_of_length-le}
 use lib.Seq.{drop-cons}
 use borrow.Author.Tests.{le-leb, lt-leb}
 use Rattle.basics.specs.Pick.{pick}
-use Rattle.basics.proofs.Tests.{tests}
 use Rattle.ltd_load.specs.Words.{is_digit, all_digits, value_from, is_number, number_in}
 use Rattle.std.specs.Prelude.{None, Some}
 
@@ -22,10 +21,6 @@ grows (b ∷ bs) n = omega (arith, grows bs (10 * n + (b - 48)))
 no_number : (word : List ℕ) → is_number word ≡ false → None ≡ number_in word
 unfolding number_in
 no_number word e = rw e
-
-pub digit-bounds : (b : ℕ) → is_digit b ≡ true → (48 ≤ b) × (b ≤ 57)
-unfolding is_digit
-digit-bounds b h = let t = simp and-eq-true_iff at h in omega tests
 
 pub empty-word : (word : List ℕ) → length word ≡ 0 → None ≡ number_in word
 unfolding is_number

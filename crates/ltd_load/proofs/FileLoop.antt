@@ -1,6 +1,6 @@
 -- The loop that writes the blocks of claims: what it has come to, and that the block which it makes is the file's.
 -- Assumes nothing.
-use Prim.Native.Nat.{ℕ, zero, suc, ◌+◌, ◌-◌, ◌*◌, ◌≤◌, ◌<◌, min}
+use Prim.Native.Nat.{ℕ, zero, suc, ◌+◌, ◌-◌, ◌*◌, ◌<◌, min}
 use mathlib.Core.Path.{◌≡◌, sym, ap, ◌∙◌}
 use mathlib.Core.Bool.{Bool}
 use mathlib.Core.List.{List}
@@ -39,9 +39,6 @@ module _ (a : Asked) (ok : LoadAsked a) (x k : ℕ) (come : Come a x k) (more : 
   pub is-due : Due x a.size (15 * k + 1)
   is-due =
       record { seed_so = rw before (seed-at (15 * k) a.seed ok.seed_so); size_so = ok.size_so; number_low = omega arith; number_high = omega arith }
-
-  pub numbered : (1 ≤ k + 1) × (k + 1 ≤ 65535)
-  numbered = (omega arith, omega (arith, ok.size_so))
 
   -- its bytes are those of the file
   pub is_block : (bytes : List ℕ) → bytes ≡ bytes_of_block (k + 1) (load_from x (15 * k + 1) (count_from a.size (15 * k + 1))) → bytes ≡ block_asked a (k + 1)

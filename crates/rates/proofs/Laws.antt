@@ -1,4 +1,4 @@
--- The laws of the rate table, for the crates above: they cite these and never unfold the table's definitions.
+-- The laws of the rate table, which this crate's proofs and the crates above cite.
 -- Assumes nothing.
 use Prim.Native.Nat.{ℕ, zero, suc, ◌+◌, ◌*◌, ◌≤◌, ◌<◌, max}
 use mathlib.Core.Path.{◌≡◌, refl, ap, subst}

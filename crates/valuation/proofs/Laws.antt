@@ -1,4 +1,4 @@
--- Laws of z, m and T over any group: `largest` and `smallest` are what they are named for, and no other number is; z is at most 1,000,000 and never falls as E grows; m is from 30,000 to 150,000 and never rises as C grows; T never falls as C grows; z and T depend on E only where it is positive.
+-- Laws of z, m and T over any group: `largest` and `smallest` are what they are named for, and no other number is; z is at most 1,000,000 and never falls as E grows; m is from 30,000 to 150,000 and never rises as C grows; T never falls as C grows; z and T depend on E only where it is positive. `credibility-rises` is for readers.
 -- Assumes nothing.
 use Prim.Native.Nat.{ℕ, zero, suc, ◌+◌, ◌-◌, ◌*◌, ◌/◌, ◌≤◌, ◌<◌, min, zero-le}
 use mathlib.Core.Path.{◌≡◌, refl, sym, ap, subst, ◌∙◌}
