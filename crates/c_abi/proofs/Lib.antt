@@ -2,7 +2,7 @@
 -- `CorrectedStored`, `DurationsStored`: runs with corrections and rows of durations, and a prepared table. `CallsAddUp`: demand 3 of the calls.
 -- `CallMoves`: moves and pools by the calls. `BlockCalls`: blocks written and read back by the calls.
 -- `PartsAlong`: parts that are read off others. The other modules have what the proofs of the calls cite. `Changes`: which tests lead to which answer of
--- a call that changes a study. `Copies`: a list copied over a part of another.
+-- a call that changes a study.
 pub mod StudyCalls
 pub mod CallChains
 pub mod CallsAddUp
@@ -12,4 +12,3 @@ pub mod BlockCalls
 pub mod DurationsStored
 mod PartsAlong
 mod Changes
-mod Copies

@@ -63,12 +63,8 @@ pub extern "C" fn ltd_open(first: u32, last: u32, study: &mut [i64]) -> u8
     ensures value { result ≡ open_answer first last study.old }
     ensures study_after { study.new ≡ open_after first last study.old }
 {
-    if study.len() < 83 {
-        return NO_FORM;
-    }
     let answer = Study::open(date_in(first), date_in(last));
-    put_study(answer.study, 0, study);
-    number_in(answer.refused)
+    put_study(answer.study, number_in(answer.refused), study)
 }
 
 // What a study makes of a claim, with a table of either kind.

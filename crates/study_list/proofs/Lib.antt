@@ -1,4 +1,3 @@
--- `StudyLists`: the numbers of a study, and runs of stores. `Placed`: a study behind three numbers. `Lent`: a lent list that is short or long enough.
-mod StudyLists
-mod Placed
+-- `Lent`: a lent list that is short or long enough. `Copies`: a list copied over a part of another.
 pub mod Lent
+pub mod Copies

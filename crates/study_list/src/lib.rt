@@ -1,9 +1,8 @@
 // A study as a list of 83 numbers, for the calls of C and Rust: first day, last day, claims taken, then its 80 sums.
 #![tactic(auto)]
 
-ghost use Rattle.std.specs.Prelude.{◌≡◌, ◌+◌, ◌≤◌, leb, pos, length};
+ghost use Rattle.std.specs.Prelude.{◌≡◌, ◌+◌, ◌≤◌, [], ◌∷◌, pos, length};
 ghost use Rattle.std.proofs.lemmas.List.Edits.{sets};
-ghost use Rattle.basics.specs.Pick.{pick};
 ghost use Rattle.study_list.specs.StudyList.{study_numbers, placed_numbers};
 ghost use Rattle.study_list.specs.Lent.{answered, stored};
 
@@ -18,33 +17,45 @@ pub fn signed(number: u32) -> i64
     i64::from(number)
 }
 
+// Stores three numbers where they fit.
+fn store_three(first: u32, second: u32, third: u32, at: usize, out: &mut [i64])
+    requires { at + 3 ≤ length out.old }
+    ensures { out.new ≡ sets out.old at (pos first ∷ pos second ∷ pos third ∷ []) }
+{
+    out[at] = signed(first);
+    out[at + 1] = signed(second);
+    out[at + 2] = signed(third);
+}
+
 // Stores a study's 83 numbers where they fit.
 fn store_study(study: Study, at: usize, out: &mut [i64])
     requires { at + 83 ≤ length out.old }
     ensures { out.new ≡ sets out.old at (study_numbers study) }
 {
-    out[at] = signed(study.window.first.0);
-    out[at + 1] = signed(study.window.last.0);
-    out[at + 2] = signed(study.taken);
+    store_three(
+        study.window.first.0,
+        study.window.last.0,
+        study.taken,
+        at,
+        out,
+    );
     out[at + 3..at + 83].copy_from_slice(&study.sums);
 }
 
-// Stores a study's 83 numbers from a place on, and answers whether they fit there; nothing is written where they don't.
-pub fn put_study(study: Study, at: usize, out: &mut [i64]) -> bool
-    ensures value { result ≡ leb (at + 83) (length out.old) }
-    ensures out_after { out.new ≡ pick (leb (at + 83) (length out.old)) (sets out.old at (study_numbers study)) out.old }
+// Stores a study's 83 numbers from the first place on, and answers the number; 255, and nothing is written, where they don't fit.
+// Kept: what it answers is the C call's number, and 255 is no `Refusal`.
+pub fn put_study(study: Study, refused: u8, out: &mut [i64]) -> u8
+    ensures value { result ≡ answered 83 out.old refused }
+    ensures out_after { out.new ≡ stored 83 out.old (sets out.old 0 (study_numbers study)) }
 {
-    // Kept: of what is written through `get_mut` a proof knows no number.
-    let length = out.len();
-    if length < 83 || at > length - 83 {
-        return false;
+    if out.len() < 83 {
+        return NO_FORM;
     }
-    store_study(study, at, out);
-    true
+    store_study(study, 0, out);
+    refused
 }
 
-// Stores number, block and place of a run, and its study, and answers the number; 255, and nothing is written, where they don't fit.
-// Kept: what it answers is the C call's number, and 255 is no `Refusal`.
+// The same of number, block and place of a run, and its study behind them.
 pub fn put_placed(study: Study, refused: u8, block: u32, place: u8, out: &mut [i64]) -> u8
     ensures value { result ≡ answered 86 out.old refused }
     ensures out_after { out.new ≡ stored 86 out.old (sets out.old 0 (placed_numbers refused block place study)) }
@@ -52,9 +63,7 @@ pub fn put_placed(study: Study, refused: u8, block: u32, place: u8, out: &mut [i
     if out.len() < 86 {
         return NO_FORM;
     }
-    out[0] = signed(refused as u32);
-    out[1] = signed(block);
-    out[2] = signed(place as u32);
-    put_study(study, 3, out);
+    store_three(u32::from(refused), block, u32::from(place), 0, out);
+    store_study(study, 3, out);
     refused
 }

@@ -8,7 +8,7 @@ use lib.ListN.{length, set, length-set}
 use lib.Seq.{sets}
 use mir.Val.{bool_byte}
 use Rattle.basics.specs.Pick.{pick}
-use Rattle.c_abi.proofs.Copies.{copied}
+use Rattle.study_list.proofs.Copies.{copied}
 use Rattle.c_abi.proofs.companies.put_company.Goals as goal
 
 -- a bool is stored as 1 or 0

@@ -10,7 +10,7 @@ use lib.Seq.{sets}
 use Rattle.basics.specs.Pick.{pick}
 use Rattle.valuation.specs.LimitAnswers.{LimitAnswer}
 use Rattle.valuation.specs.ReserveLimit.{limit_of}
-use Rattle.c_abi.proofs.Copies.{copied}
+use Rattle.study_list.proofs.Copies.{copied}
 use Rattle.c_abi.proofs.factors.ltd_reserve_limit.Goals as goal
 
 pub returns-in-Ok-reserve_limit-clause-t_out_after : goal.returns-in-Ok-reserve_limit-clause-t_out_after
