@@ -12,7 +12,7 @@ use Rattle.claim_months.specs.Exposure.{MonthRecord, thirtieths, meets, month_re
 use Rattle.rates.specs.Rates.{group_of}
 use Rattle.study.specs.Sums.{is_count}
 use Rattle.study.specs.Study.{count_in_group, group_weight, exposure, closing_count, expected, figure}
-use Rattle.study.specs.Private.{column_rate}
+use Rattle.study.specs.design.Private.{column_rate}
 use Rattle.by_duration.specs.Rows.{row_of, in_row, row_weight, row_exposure, row_closings, row_expected, row_figure}
 
 -- a weight where a test picks the duration, 0 at any other; a closing there under category x

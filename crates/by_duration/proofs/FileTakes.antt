@@ -15,11 +15,11 @@ use Rattle.claim_months.specs.Claim.{claim_check}
 use Rattle.claim_months.specs.Windows.{window_check}
 use Rattle.claim_months.specs.Span.{exposure_check}
 use Rattle.rates.specs.declared.Kind.{Kind}
-use Rattle.rates.specs.Prepared.{table_check_of}
+use Rattle.rates.specs.design.Prepared.{table_check_of}
 use Rattle.study.specs.declared.Study.{Study}
 use Rattle.study.specs.Sums.{none, plus, within}
 use Rattle.study.specs.Study.{fresh, sum_over, has_room, room_check}
-use Rattle.study.specs.PreparedAdding.{share_with, add_check_with, added_with}
+use Rattle.study.specs.design.PreparedAdding.{share_with, add_check_with, added_with}
 use Rattle.study.proofs.SumOver.{All}
 use Rattle.study.proofs.Algebra.{each_at, none-at}
 use Rattle.claim_file.specs.Runs.{FileRun}

@@ -14,14 +14,14 @@ use Rattle.claim_months.specs.Exposure.{month_records}
 use Rattle.claim_months.proofs.Spans.{sum_same}
 use Rattle.rates.specs.declared.Kind.{Kind}
 use Rattle.rates.specs.Rates.{last_of}
-use Rattle.rates.specs.Prepared.{recovery_of, death_of}
+use Rattle.rates.specs.design.Prepared.{recovery_of, death_of}
 use Rattle.study.specs.Sums.{group_at, column_at, times_at, sum_at}
 use Rattle.study.specs.Study.{sum_over, figure}
-use Rattle.study.specs.PreparedAdding.{share_with}
+use Rattle.study.specs.design.PreparedAdding.{share_with}
 use Rattle.study.proofs.Capacity.{records-at}
 use Rattle.by_duration.specs.Rows.{row_at, claim_figure, row_sum, rows_over}
 use Rattle.by_duration.specs.DurationRuns.{duration_rows}
-use Rattle.by_duration.specs.Totals.{row_number, first_of, group_rows, rows_total, GroupTotals}
+use Rattle.by_duration.specs.GroupTotals.{row_number, first_of, group_rows, rows_total, GroupTotals}
 use Rattle.by_duration.proofs.SpanRows.{once}
 use Rattle.by_duration.proofs.RowGroups.{rows-group, five}
 use Rattle.by_duration.proofs.FileTakes.{claims, window, run-shares}

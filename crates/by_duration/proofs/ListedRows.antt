@@ -6,7 +6,7 @@ use Rattle.claim_months.specs.Exposure.{MonthRecord, thirtieths, weighted, closi
 use Rattle.claim_months.specs.Durations.{is_number}
 use Rattle.claim_months.specs.Listing.{row, rows, listed_records, list_after}
 use Rattle.by_duration.specs.Rows.{row_exposure, row_closings, row_expected, row_figure}
-use Rattle.by_duration.specs.Totals.{listed_weighted, listed_closings, listed_figure, ListedRows}
+use Rattle.by_duration.specs.ListedRows.{listed_weighted, listed_closings, listed_figure, ListedRows}
 
 rows-weighted : (w : ℕ → ℤ) (rs : List MonthRecord) (rest : List ℤ) → listed_weighted w (rows rs ++ rest) (length rs) ≡ weighted w rs
 unfolding listed_weighted rows row weighted

@@ -12,7 +12,7 @@ use Rattle.basics.proofs.Tables.{table-length, table_at, table_same, list-table}
 use Rattle.study.specs.Sums.{column_at}
 use Rattle.by_duration.specs.Rows.{row_at}
 use Rattle.by_duration.specs.Wrapped.{residue, as64}
-use Rattle.by_duration.specs.Private.{Fit, Amounts, raised_by, month_amount}
+use Rattle.by_duration.specs.design.Private.{Fit, Amounts, raised_by, month_amount}
 use Rattle.by_duration.proofs.Wraps.{residue-high, as64-fits, as64-sum}
 
 abbrev pub at : List ℤ → ℕ → ℤ

@@ -11,7 +11,7 @@ use Rattle.rates.specs.Rates.{group_of, last_of}
 use Rattle.rates.proofs.Laws.{by-group}
 use Rattle.study.specs.Study.{figure}
 use Rattle.by_duration.specs.Rows.{row_of, row_figure}
-use Rattle.by_duration.specs.Totals.{first_of, group_rows}
+use Rattle.by_duration.specs.GroupTotals.{first_of, group_rows}
 use Rattle.by_duration.proofs.Figures.{Either, figure_in, of_group, of_row, group-figure, row-figure, figure-plus, figure-none, figure-same, from_one}
 
 -- a number from a on, one of m

@@ -17,10 +17,10 @@ use Rattle.claim_months.proofs.Additive.{cut-weighted}
 use Rattle.claim_months.proofs.Closing.{cut-closings}
 use Rattle.claim_months.proofs.Parts.{SoundParts, parts-map, parts-every, every_map, total-same, parts_total}
 use Rattle.rates.specs.declared.Kind.TheVariants.{Plain}
-use Rattle.rates.specs.Prepared.{recovery_of, death_of}
+use Rattle.rates.specs.design.Prepared.{recovery_of, death_of}
 use Rattle.study.specs.Sums.{column_at, is_count}
 use Rattle.study.specs.Study.{sum_over, study_of}
-use Rattle.study.specs.Private.{column_rate}
+use Rattle.study.specs.design.Private.{column_rate}
 use Rattle.study.proofs.SumOver.{All}
 use Rattle.claim_file.specs.Runs.{FileRun}
 use Rattle.claim_file.specs.declared.WindowDates.{WindowDates}
@@ -31,7 +31,7 @@ use Rattle.claim_file.proofs.Files.{fed_plain, first, with_study, sound-days, ru
 use Rattle.claim_file.proofs.SameRuns.{same_runs}
 use Rattle.by_duration.specs.Rows.{row_at, row_figure, claim_figure, row_sum, rows_over}
 use Rattle.by_duration.specs.DurationRuns.{taken_claims, run_for, duration_rows}
-use Rattle.by_duration.specs.Totals.{rows_for, RowsDemand3}
+use Rattle.by_duration.specs.RowsDemand3.{rows_for, RowsDemand3}
 use Rattle.by_duration.proofs.Figures.{figure_in, picked, picked_closing, of_row, row-figure}
 use Rattle.by_duration.proofs.Takes.{in_block, first_block}
 use Rattle.by_duration.proofs.FileTakes.{Passes, claims, window, run-passes}

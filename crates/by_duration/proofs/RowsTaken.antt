@@ -24,7 +24,7 @@ use Rattle.claim_file.specs.Files.{claims_of_block, file_claims}
 use Rattle.claim_file.proofs.Runs.{fed-none}
 use Rattle.by_duration.specs.Rows.{row_at, claim_figure, row_sum, rows_over}
 use Rattle.by_duration.specs.Wrapped.{as64}
-use Rattle.by_duration.specs.Private.{Fit, raised_by, has_cell, checked_figure, checked_sum}
+use Rattle.by_duration.specs.design.Private.{Fit, raised_by, has_cell, checked_figure, checked_sum}
 use Rattle.by_duration.specs.DurationRuns.{duration_rows, run_for, head_numbers, duration_numbers, rows_in, has_rows, durations_answered, durations_after}
 use Rattle.by_duration.proofs.Raised.{at, raised-none, raised-same, raised-twice}
 use Rattle.by_duration.proofs.Takes.{add, Begins, Fed, taken_from, fed-first, fed-split}

@@ -16,19 +16,19 @@ use Rattle.claim_months.proofs.SpanAnswers.{exposed}
 use Rattle.claim_months.proofs.Ranges.{weighted-size}
 use Rattle.claim_months.proofs.Closing.{closings-value, closing_duration}
 use Rattle.rates.specs.declared.Kind.TheVariants.{Plain, Prepared}
-use Rattle.rates.specs.Prepared.{table_check_of, recovery_of, death_of, prepared_of}
+use Rattle.rates.specs.design.Prepared.{table_check_of, recovery_of, death_of, prepared_of}
 use Rattle.rates.proofs.Laws.{recovery-bound, death-bound}
-use Rattle.rates.proofs.PreparedTables.{same-table}
+use Rattle.rates.proofs.SameTable.{same-table}
 use Rattle.study.specs.Sums.{column_at, is_count}
 use Rattle.study.specs.Study.{sum_over}
-use Rattle.study.specs.Private.{column_rate}
+use Rattle.study.specs.design.Private.{column_rate}
 use Rattle.study.proofs.SumOver.{All}
 use Rattle.claim_file.specs.Runs.{FileRun}
 use Rattle.claim_file.proofs.SameRuns.{same_runs}
 use Rattle.by_duration.specs.Rows.{row_at, row_figure, claim_figure, row_sum, rows_over}
 use Rattle.by_duration.specs.Wrapped.{as64}
 use Rattle.by_duration.specs.DurationRuns.{taken_claims, run_for, duration_rows, head_numbers, duration_numbers}
-use Rattle.by_duration.specs.Totals.{SameRows}
+use Rattle.by_duration.specs.SameRows.{SameRows}
 use Rattle.by_duration.proofs.Wraps.{as64-small}
 use Rattle.by_duration.proofs.Figures.{figure_in, picked, picked_closing, of_row, row-figure}
 use Rattle.by_duration.proofs.FileTakes.{Passes, claims, window, run-passes, run-limit}

@@ -15,14 +15,14 @@ use Rattle.claim_months.specs.declared.Window.{Window}
 use Rattle.claim_months.specs.Span.{span_of, span_thirtieths, span_weighted, span_closing, exposure_check, span_in}
 use Rattle.claim_months.proofs.SpanAnswers.{exposed, spanned, span-refused}
 use Rattle.rates.specs.declared.Kind.{Kind}
-use Rattle.rates.specs.Prepared.{recovery_of, death_of, part_recovery, part_death}
+use Rattle.rates.specs.design.Prepared.{recovery_of, death_of, part_recovery, part_death}
 use Rattle.rates.proofs.Parts.{cell_part, part-recovery, part-death}
 use Rattle.claim_months.proofs.Sound.{Sound}
 use Rattle.claim_months.proofs.Spans.{span-weighted, span-closings}
 use Rattle.study.specs.Sums.{is_count}
-use Rattle.study.specs.Private.{column_rate}
+use Rattle.study.specs.design.Private.{column_rate}
 use Rattle.by_duration.specs.Rows.{row_of, in_row, row_weight, row_figure, claim_figure}
-use Rattle.by_duration.specs.Private.{month_amount, span_months, span_closings, has_cell, span_figure, checked_figure}
+use Rattle.by_duration.specs.design.Private.{month_amount, span_months, span_closings, has_cell, span_figure, checked_figure}
 use Rattle.by_duration.proofs.Figures.{figure_in, row-figure}
 use Rattle.by_duration.proofs.Raised.{one_amount}
 use Rattle.std.specs.Prelude.{Err, Ok}

@@ -12,13 +12,13 @@ use Rattle.rates.specs.declared.Kind.{Kind}
 use Rattle.study.specs.declared.Study.{Study}
 use Rattle.study.specs.Answers.{Answer}
 use Rattle.study.specs.Study.{fresh, opened_with, opened}
-use Rattle.study.specs.PreparedAdding.{add_check_with, added_with}
+use Rattle.study.specs.design.PreparedAdding.{add_check_with, added_with}
 use Rattle.claim_file.specs.Runs.{FileRun}
 use Rattle.claim_file.specs.Bytes.{date_from}
 use Rattle.claim_file.specs.Block.{block_claim, claim_count, block_sound}
 use Rattle.claim_file.specs.BlockAnswers.{record_in}
 use Rattle.claim_file.specs.Run.{going_on, stops, claims_from, begun, block_fed, fed}
-use Rattle.claim_file.specs.PreparedRuns.{adding_with}
+use Rattle.claim_file.specs.design.PreparedRuns.{adding_with}
 use Rattle.claim_file.specs.Files.{claims_of_block, claims_of_blocks, file_claims}
 use Rattle.claim_file.proofs.Reading.{sound-record}
 use Rattle.claim_file.proofs.Runs.{sound, fed-refused, fed-none, fed-turn, stops-refused}

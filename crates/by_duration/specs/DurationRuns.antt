@@ -6,7 +6,7 @@ use Rattle.claim_months.specs.declared.Claim.{Claim}
 use Rattle.rates.specs.declared.Kind.{Kind}
 use Rattle.claim_file.specs.Runs.{FileRun}
 use Rattle.claim_file.specs.Run.{file_run_with}
-use Rattle.claim_file.specs.PreparedRuns.{adding_with}
+use Rattle.claim_file.specs.design.PreparedRuns.{adding_with}
 use Rattle.claim_file.specs.Files.{file_claims}
 use Rattle.by_duration.specs.Rows.{rows_over}
 use Rattle.by_duration.specs.Wrapped.{as64}

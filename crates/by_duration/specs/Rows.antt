@@ -7,7 +7,7 @@ use Rattle.claim_months.specs.declared.Claim.{Claim}
 use Rattle.claim_months.specs.declared.Window.{Window}
 use Rattle.claim_months.specs.Exposure.{MonthRecord, month_records, weighted, closings}
 use Rattle.rates.specs.declared.Kind.{Kind}
-use Rattle.rates.specs.Prepared.{recovery_of, death_of}
+use Rattle.rates.specs.design.Prepared.{recovery_of, death_of}
 use Rattle.study.specs.Sums.{column_at, is_count}
 use Rattle.study.specs.Study.{sum_over}
 

@@ -2,9 +2,9 @@
 // Kept: each function asks for the length of the lent `rows` and for `fit`; a struct of both has a lifetime, and both to prove after each raise.
 ghost use Rattle.std.specs.Prelude.{◌≡◌, ◌+◌, ◌-◌, ◌*◌, ◌<◌, ◌≤◌, length, pos};
 ghost use Rattle.claim_months.specs.Span.{SpanBounds};
-ghost use Rattle.rates.specs.Prepared.{part_recovery, part_death};
+ghost use Rattle.rates.specs.design.Prepared.{part_recovery, part_death};
 ghost use Rattle.by_duration.specs.Rows.{row_of};
-ghost use Rattle.by_duration.specs.Private.{Fit, raised_by, month_amount, span_months, span_closings, span_figure, checked_figure};
+ghost use Rattle.by_duration.specs.design.Private.{Fit, raised_by, month_amount, span_months, span_closings, span_figure, checked_figure};
 
 use crate::wrapping::raise;
 use basics::Duration;

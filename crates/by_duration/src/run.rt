@@ -6,7 +6,7 @@ ghost use Rattle.claim_file.specs.Block.{block_claim};
 ghost use Rattle.claim_file.specs.BlockAnswers.{record_in};
 ghost use Rattle.claim_file.specs.Files.{claims_of_block};
 ghost use Rattle.claim_file.specs.Runs.{run_by_number};
-ghost use Rattle.by_duration.specs.Private.{Fit, raised_by, checked_sum};
+ghost use Rattle.by_duration.specs.design.Private.{Fit, raised_by, checked_sum};
 ghost use Rattle.by_duration.specs.DurationRuns.{run_for, taken_claims, head_numbers, has_rows, rows_in, durations_answered, durations_after};
 
 use crate::rows::add_rows;

@@ -27,7 +27,7 @@ use Rattle.load.specs.Load.{seed_sound, step_sound, load_claim, load_step, load,
 use Rattle.load.proofs.Seeds.{claim-at, steps}
 use Rattle.load.proofs.Passing.{claim-fits}
 use Rattle.load.specs.declared.LoadedClaim.{LoadedClaim}
-use Rattle.c_abi.specs.RecordCalls.{is_record, claim_or, all_records, record_count, records_form, placed, block_of, read_number, read_stored, write_answer, write_after}
+use Rattle.c_abi.specs.RecordCalls.{is_record, claim_or, all_records, record_count, records_form, records_read, block_of, read_number, read_stored, write_answer, write_after}
 use Rattle.c_abi.specs.LoadCalls.{step_lent, step_number, record_stored, step_answered, record_after}
 use Rattle.c_abi.specs.BlockCalls.{ReadBack, ReadsBack, LoadCall, record_left, AllGenerated, records_left, claims_at, BlocksReadBack}
 
@@ -60,20 +60,20 @@ module _ (number : ℕ) (cs : List Claim) (few : length cs ≤ 15) (fits : (k : 
       rw (eq-eqb (length records % 32) 0 (omega arith), le-leb (length records / 32) 15 (omega arith), all)
 
   -- the places are those of the block that is written
-  places : (m : ℕ) → m ≤ length cs → Placed written m (placed records m)
-  unfolding placed
+  places : (m : ℕ) → m ≤ length cs → Placed written m (records_read records m)
+  unfolding records_read
   places zero h = placed-none written no_claim refl
   places (suc m) h =
-      subst (λ (n : ℕ). Placed written n (placed records (suc m))) (add-one m)
-      (placed-more written m (placed records m) (claim_or (record_in records (32 * m))) (omega arith)
+      subst (λ (n : ℕ). Placed written n (records_read records (suc m))) (add-one m)
+      (placed-more written m (records_read records m) (claim_or (record_in records (32 * m))) (omega arith)
       (ap claim_or (sym (back m (omega arith)))) (places m (omega arith)))
 
   same_block : block_of records ≡ record { count = length cs; claims = claims_in written 0 15 }
   unfolding written
   same_block =
-      let p : placed records (record_count records) ≡ claims_in written 0 15 =
-      placed-all written (placed records (record_count records))
-      (subst (λ (n : ℕ). Placed written n (placed records (record_count records))) (many ∙ sym (block_count number cs few)) (places (record_count records) (omega (arith, many)))) in
+      let p : records_read records (record_count records) ≡ claims_in written 0 15 =
+      placed-all written (records_read records (record_count records))
+      (subst (λ (n : ℕ). Placed written n (records_read records (record_count records))) (many ∙ sym (block_count number cs few)) (places (record_count records) (omega (arith, many)))) in
       λ i. record { count = many i; claims = p i }
 
   module _ (block claims : List ℕ) (whole : length block ≡ 512) (room : 480 ≤ length claims) where

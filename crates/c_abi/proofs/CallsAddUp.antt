@@ -23,7 +23,7 @@ use Rattle.study.specs.Study.{study_of, opened, added, accepted}
 use Rattle.study.specs.Demand3.{StudyRun, run_window, occurrences, Opens, nth_claim, after, given_to, last_study, given_at, answer_at, change, CountedClosed, LeavesClosings, WeighsClosings, AddsUp}
 use Rattle.study.proofs.Algebra.{at, each_at}
 use Rattle.study.proofs.Demand3.{demand-3}
-use Rattle.study.proofs.EitherTable.{same-adding}
+use Rattle.study.proofs.SameAdding.{same-adding}
 use Rattle.study.proofs.PreparedWithdrawing.{same-withdrawing}
 use Rattle.claim_file.specs.BlockAnswers.{record_in}
 use Rattle.c_abi.specs.declared.Change.{Change}

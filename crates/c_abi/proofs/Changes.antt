@@ -16,9 +16,9 @@ use Rattle.rates.specs.declared.Kind.{Kind}
 use Rattle.rates.specs.declared.Kind.TheVariants.{Plain, Prepared}
 use Rattle.study.specs.declared.Study.{Study}
 use Rattle.study.specs.Answers.{Answer}
-use Rattle.study.specs.PreparedAdding.{added_with}
-use Rattle.study.specs.PreparedWithdrawing.{withdrawn_with}
-use Rattle.study.proofs.EitherTable.{same-adding}
+use Rattle.study.specs.design.PreparedAdding.{added_with}
+use Rattle.study.specs.design.PreparedWithdrawing.{withdrawn_with}
+use Rattle.study.proofs.SameAdding.{same-adding}
 use Rattle.study.proofs.PreparedWithdrawing.{same-withdrawing}
 use Rattle.claim_file.specs.BlockAnswers.{record_in}
 use Rattle.study_list.specs.StudyList.{study_numbers}

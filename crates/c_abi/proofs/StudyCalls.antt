@@ -5,13 +5,13 @@ use mathlib.Core.Path.{◌≡◌, refl, ap}
 use mathlib.Core.List.{List, ◌++◌}
 use Rattle.study_list.specs.StudyList.{study_numbers}
 use Rattle.rates.specs.declared.Kind.TheVariants.{Prepared}
-use Rattle.rates.specs.Prepared.{prepared_of}
+use Rattle.rates.specs.design.Prepared.{prepared_of}
 use Rattle.claim_months.specs.declared.Claim.{Claim}
 use Rattle.study.specs.declared.Study.{Study}
 use Rattle.study.specs.Answers.{Answer}
 use Rattle.study.specs.Study.{added}
 use Rattle.study.specs.Withdrawing.{withdrawn}
-use Rattle.study.proofs.EitherTable.{same-adding}
+use Rattle.study.proofs.SameAdding.{same-adding}
 use Rattle.study.proofs.PreparedWithdrawing.{same-withdrawing}
 use Rattle.c_abi.specs.declared.Change.TheVariants.{Add, Withdraw}
 use Rattle.claim_file.specs.BlockAnswers.{record_in}

@@ -9,7 +9,7 @@ use Rattle.claim_months.specs.Claim.{weight}
 use Rattle.claim_months.specs.Windows.{Parts, total, EveryPart, NoPart, ExactlyOnePart}
 use Rattle.rates.specs.declared.Kind.{Kind}
 use Rattle.rates.specs.declared.Kind.TheVariants.{Plain, Prepared}
-use Rattle.rates.specs.Prepared.{prepared_of}
+use Rattle.rates.specs.design.Prepared.{prepared_of}
 use Rattle.study.specs.Sums.{ClosingPlace}
 use Rattle.study.specs.Study.{own_refusal, accepted, study_of}
 use Rattle.study.specs.Demand3.{StudyRun, run_window, IsOrder, nth_claim, closes_in}

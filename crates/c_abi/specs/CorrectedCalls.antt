@@ -1,12 +1,12 @@
 -- The calls for the run of a whole claim file with corrections: ltd_corrected_study and ltd_prepared_corrected_study.
--- `proofs/CorrectedStored.antt` proves `SameCorrected`.
+-- `proofs/CorrectedCalls.antt` proves `SameCorrected`.
 use Rattle.std.specs.Prelude.{ℕ, ◌≡◌, List, ℤ}
 use Rattle.std.proofs.lemmas.List.Edits.{sets}
 use Rattle.rates.specs.declared.Kind.TheVariants.{Prepared}
-use Rattle.rates.specs.Prepared.{prepared_of}
+use Rattle.rates.specs.design.Prepared.{prepared_of}
 use Rattle.claim_file.specs.Runs.{CorrectedRun}
 use Rattle.claim_file.specs.Corrections.{corrected_run_with, corrected_run}
-use Rattle.claim_file.specs.PreparedRuns.{adding_with}
+use Rattle.claim_file.specs.design.PreparedRuns.{adding_with}
 use Rattle.study_list.specs.Lent.{answered, stored}
 use Rattle.study_list.specs.StudyList.{placed_numbers}
 

@@ -1,8 +1,8 @@
 -- The calls for the rows of a whole claim file: ltd_durations and ltd_prepared_durations. What they answer and store is a definition of `by_duration`
--- (`specs/DurationRuns.antt`). `proofs/DurationsStored.antt` proves `SameDurations`.
+-- (`specs/DurationRuns.antt`). `proofs/DurationCalls.antt` proves `SameDurations`.
 use Rattle.std.specs.Prelude.{ℕ, ◌≡◌, true, List, length, get_or, ℤ, pos}
 use Rattle.rates.specs.declared.Kind.TheVariants.{Plain, Prepared}
-use Rattle.rates.specs.Prepared.{prepared_of}
+use Rattle.rates.specs.design.Prepared.{prepared_of}
 use Rattle.claim_file.specs.Runs.{FileRun}
 use Rattle.claim_file.specs.Run.{file_run}
 use Rattle.by_duration.specs.DurationRuns.{has_rows, durations_answered, durations_after}

@@ -56,12 +56,12 @@ abbrev pub claim_or : Option Claim → Claim
 claim_or (Some c) = c
 claim_or None = no_claim
 
-unfoldable pub placed : List ℕ → ℕ → List Claim
-placed bytes zero = replicate 15 no_claim
-placed bytes (suc n) = set (placed bytes n) n (claim_or (record_in bytes (32 * n)))
+unfoldable pub records_read : List ℕ → ℕ → List Claim
+records_read bytes zero = replicate 15 no_claim
+records_read bytes (suc n) = set (records_read bytes n) n (claim_or (record_in bytes (32 * n)))
 
 abbrev pub block_of : List ℕ → Block
-block_of bytes = record { count = record_count bytes; claims = placed bytes (record_count bytes) }
+block_of bytes = record { count = record_count bytes; claims = records_read bytes (record_count bytes) }
 
 abbrev pub write_answer : ℕ → List ℕ → List ℕ → ℕ
 write_answer number claims old = check (records_form claims) refuse_block then write_check number (record_count claims) (length old)

@@ -9,14 +9,14 @@ use Rattle.calendar.specs.Calendar.{last_day_number}
 use Rattle.claim_months.specs.declared.Claim.{Claim}
 use Rattle.rates.specs.declared.Kind.{Kind}
 use Rattle.rates.specs.declared.Kind.TheVariants.{Plain, Prepared}
-use Rattle.rates.specs.Prepared.{prepared_of}
+use Rattle.rates.specs.design.Prepared.{prepared_of}
 use Rattle.study.specs.declared.Study.{Study}
 use Rattle.study.specs.Answers.{Answer}
 use Rattle.study.specs.Study.{opened, added}
 use Rattle.study.specs.Joining.{joined}
-use Rattle.study.specs.PreparedAdding.{added_with}
+use Rattle.study.specs.design.PreparedAdding.{added_with}
 use Rattle.study.specs.Withdrawing.{withdrawn}
-use Rattle.study.specs.PreparedWithdrawing.{withdrawn_with}
+use Rattle.study.specs.design.PreparedWithdrawing.{withdrawn_with}
 use Rattle.claim_file.specs.BlockAnswers.{record_in}
 use Rattle.study_list.specs.Lent.{answered, stored}
 use Rattle.study_list.specs.StudyList.{study_numbers}

@@ -7,7 +7,7 @@ ghost use Rattle.claim_file.specs.Record.{all_claim_bytes};
 ghost use Rattle.claim_file.specs.BlockAnswers.{window_of, window_after};
 ghost use Rattle.study_list.specs.Lent.{answered, stored};
 ghost use Rattle.c_abi.specs.Abi.{date_in, date_number};
-ghost use Rattle.c_abi.specs.RecordCalls.{read_answer, read_after, all_records, placed, write_answer, write_after, window_number, dates_stored};
+ghost use Rattle.c_abi.specs.RecordCalls.{read_answer, read_after, all_records, records_read, write_answer, write_after, window_number, dates_stored};
 
 use crate::answers::{NO_FORM_NUMBER, number_answered};
 use crate::listing::date_in;
@@ -76,9 +76,9 @@ pub extern "C" fn ltd_read_window(block: &[u8], dates: &mut [u32]) -> u8
 }
 
 // The fifteen places of a block with the claims of the first records in them, if each of these is one.
-fn placed(bytes: &[u8], count: usize) -> Option<[Claim; 15]>
+fn records_read(bytes: &[u8], count: usize) -> Option<[Claim; 15]>
     requires { count ≤ 15 }
-    ensures { result ≡ pick (all_records bytes.now count) (Some (placed bytes.now count)) None }
+    ensures { result ≡ pick (all_records bytes.now count) (Some (records_read bytes.now count)) None }
 {
     let mut claims = [no_claim(); 15];
     for (place, claim) in claims[..count].iter_mut().enumerate() {
@@ -99,7 +99,7 @@ fn write_records(number: u32, claims: &[u8], block: &mut [u8]) -> Result<(), Ref
     if records > 15 {
         return Err(Refusal::Block);
     }
-    let Some(claims) = placed(claims, records) else {
+    let Some(claims) = records_read(claims, records) else {
         return Err(Refusal::Block);
     };
     let count = records as u8;

@@ -4,7 +4,7 @@ ghost use Rattle.std.specs.Prelude.{◌≡◌};
 ghost use Rattle.std.proofs.lemmas.List.Edits.{sets};
 ghost use Rattle.rates.specs.declared.Kind.TheVariants.{Prepared};
 ghost use Rattle.claim_file.specs.Corrections.{corrected_run_with, corrected_run};
-ghost use Rattle.claim_file.specs.PreparedRuns.{adding_with};
+ghost use Rattle.claim_file.specs.design.PreparedRuns.{adding_with};
 ghost use Rattle.claim_file.specs.Runs.{corrected_by_number};
 ghost use Rattle.study_list.specs.Lent.{answered, stored};
 ghost use Rattle.c_abi.specs.CorrectedCalls.{corrected_numbers};

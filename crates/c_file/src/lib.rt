@@ -5,9 +5,9 @@
 ghost use Rattle.std.specs.Prelude.{◌≡◌};
 ghost use Rattle.std.proofs.lemmas.List.Edits.{sets};
 ghost use Rattle.rates.specs.declared.Kind.TheVariants.{Prepared};
-ghost use Rattle.rates.specs.Prepared.{prepare_check, prepare_after};
+ghost use Rattle.rates.specs.design.Prepared.{prepare_check, prepare_after};
 ghost use Rattle.claim_file.specs.Run.{file_run_with, file_run};
-ghost use Rattle.claim_file.specs.PreparedRuns.{adding_with};
+ghost use Rattle.claim_file.specs.design.PreparedRuns.{adding_with};
 ghost use Rattle.claim_file.specs.Runs.{run_by_number};
 ghost use Rattle.study_list.specs.Lent.{answered, stored};
 ghost use Rattle.c_file.specs.FileCalls.{run_numbers};

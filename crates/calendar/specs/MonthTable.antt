@@ -15,18 +15,18 @@ pub record InEntry (k n : ℕ) : Type 0 where
   pub to : n < entry (suc k)
 
 -- the date of day n in that month
-abbrev pub date_in : ℕ → ℕ → Date
-date_in k n = record { year = (first_month + k) / 12; month = (first_month + k) % 12 + 1; day = n - entry k + 1 }
+abbrev pub date_by_table : ℕ → ℕ → Date
+date_by_table k n = record { year = (first_month + k) / 12; month = (first_month + k) % 12 + 1; day = n - entry k + 1 }
 
 -- the day number of a date
-abbrev pub number_in : Date → ℕ
-number_in d = entry (month_index d.year d.month - first_month) + (d.day - 1)
+abbrev pub number_by_table : Date → ℕ
+number_by_table d = entry (month_index d.year d.month - first_month) + (d.day - 1)
 
 -- a date: its number by the table is the rule's, it is what the call answers, and the call answers that number with the date
 pub record DateByTable (d : Date) : Type 0 where
-  pub number : number_in d ≡ day_number d
-  pub answer : day_of d ≡ known (number_in d)
-  pub back : date_at (record { 0 = number_in d }) ≡ Some d
+  pub number : number_by_table d ≡ day_number d
+  pub answer : day_of d ≡ known (number_by_table d)
+  pub back : date_at (record { 0 = number_by_table d }) ≡ Some d
 
 -- a day number: exactly one month holds it by the table, and the calls answer with that month and with the date found in it; that date has the number
 pub record DayByTable (n : ℕ) : Type 0 where
@@ -35,10 +35,10 @@ pub record DayByTable (n : ℕ) : Type 0 where
   pub held : InEntry place n
   pub only : (k : ℕ) → InEntry k n → k ≡ place
   pub month : month_at (record { 0 = n }) ≡ Some (first_month + place)
-  pub date : date_at (record { 0 = n }) ≡ Some (date_in place n)
-  pub back : day_of (date_in place n) ≡ known n
+  pub date : date_at (record { 0 = n }) ≡ Some (date_by_table place n)
+  pub back : day_of (date_by_table place n) ≡ known n
 
--- `proofs/MonthTables.antt` proves it
+-- `proofs/MonthTable.antt` proves it
 pub record MonthTable : Type 0 where
   -- the table by itself: it has 1,801 entries, the first is 0, and each is followed by the one as many days later as its month has
   pub count : length month_start_days ≡ 1801

@@ -9,7 +9,7 @@ use lib.Dec.{eqb, leb}
 use borrow.Author.Tests.{eqb-true, leb-true}
 use Rattle.basics.proofs.Tests.{tests}
 use Rattle.claim_file.specs.Bytes.{two_at, zero_from}
-use Rattle.claim_file.specs.Block.{block_number, claim_count, check_sum, check_of, claims_padded, framed, window_block, claim_block}
+use Rattle.claim_file.specs.Block.{block_number, claim_count, check_sum, check_number, claims_padded, framed, window_block, claim_block}
 
 module _ (due : ℕ) (bytes : List ℕ) where
   pub framed_is : {l n k z : Bool}
@@ -18,11 +18,11 @@ module _ (due : ℕ) (bytes : List ℕ) where
       → eqb (check_sum bytes 510 % 65521) (two_at bytes 510) ≡ k
       → zero_from bytes 3 13 ≡ z
       → framed due bytes ≡ (l && n && k && z)
-  unfolding framed block_number check_of
+  unfolding framed block_number check_number
   framed_is l n k z = λ i. l i && n i && k i && z i
 
   pub check-decides : eqb (check_sum bytes 510 % 65521) (two_at bytes 510) ≡ false → framed due bytes ≡ false
-  unfolding framed block_number check_of
+  unfolding framed block_number check_number
   check-decides e = simp (e, and-false)
 
   pub claims-are : {f l p z : Bool}

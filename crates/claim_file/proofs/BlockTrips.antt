@@ -18,7 +18,7 @@ use Rattle.basics.proofs.Tests.{by, and_left, and_right}
 use Rattle.claim_months.specs.declared.Claim.{Claim}
 use Rattle.claim_file.specs.Bytes.{byte_at, two_at, four_at, date_from, zero_from, two, date_bytes, zeros}
 use Rattle.claim_file.specs.Record.{record_padded, claim_from, claim_bytes, all_claim_bytes}
-use Rattle.claim_file.specs.Block.{block_claim, claim_count, check_of, claims_padded, framed, window_block, claim_block, block_sound, sealed, window_bytes, bytes_of_block}
+use Rattle.claim_file.specs.Block.{block_claim, claim_count, check_number, claims_padded, framed, window_block, claim_block, block_sound, sealed, window_bytes, bytes_of_block}
 use Rattle.claim_file.specs.BlockAnswers.{no_claim}
 use Rattle.claim_file.specs.Files.{claims_of_block}
 use Rattle.claim_file.specs.RoundTrip.{DateFits, ClaimFits}
@@ -81,7 +81,7 @@ module _ (n : ℕ) (cs : List Claim) (few : length cs ≤ 15) where
   middle = all_claim_bytes cs ++ zeros (494 - 32 * length cs)
 
   last : List ℕ
-  last = two (check_of (body n (length cs) middle))
+  last = two (check_number (body n (length cs) middle))
 
   -- from claim k on
   from-claim : (k : ℕ) → k ≤ length cs → drop (16 + 32 * k) (bytes_of_block n cs) ≡ all_claim_bytes (drop k cs) ++ (zeros (494 - 32 * length cs) ++ last)
@@ -156,7 +156,7 @@ window-sound b e =
     window-is (window_bytes b e)
     (sealed-framed 0 0 m (omega arith) (omega arith))
     refl
-    (zero-drop (window_bytes b e) 16 486 24 8 refl ∙ ap (λ (r : List ℕ). zero_from r 8 486) (sealed-drop 0 0 m) ∙ zero-drop (m ++ two (check_of (body 0 0 m))) 8 486 8 0 refl ∙ zeros-zero 486 (two (check_of (body 0 0 m))))
+    (zero-drop (window_bytes b e) 16 486 24 8 refl ∙ ap (λ (r : List ℕ). zero_from r 8 486) (sealed-drop 0 0 m) ∙ zero-drop (m ++ two (check_number (body 0 0 m))) 8 486 8 0 refl ∙ zeros-zero 486 (two (check_number (body 0 0 m))))
 
 pub window-first : (b e : Date) → DateFits b → date_from (window_bytes b e) 16 ≡ b
 unfolding window_bytes
@@ -164,13 +164,13 @@ window-first b e f =
     let m = date_bytes b ++ (date_bytes e ++ zeros 486) in
     date-drop (window_bytes b e) 16 16 0 refl
     ∙ ap (λ (r : List ℕ). date_from r 0) (sealed-drop 0 0 m)
-    ∙ date-back b ((date_bytes e ++ zeros 486) ++ two (check_of (body 0 0 m))) f
+    ∙ date-back b ((date_bytes e ++ zeros 486) ++ two (check_number (body 0 0 m))) f
 
 pub window-last : (b e : Date) → DateFits e → date_from (window_bytes b e) 20 ≡ e
 unfolding window_bytes
 window-last b e f =
     let m = date_bytes b ++ (date_bytes e ++ zeros 486) in
-    let t = two (check_of (body 0 0 m)) in
+    let t = two (check_number (body 0 0 m)) in
     date-drop (window_bytes b e) 16 20 4 refl
     ∙ ap (λ (r : List ℕ). date_from r 4) (sealed-drop 0 0 m)
     ∙ date-drop (m ++ t) 4 4 0 refl

@@ -12,7 +12,7 @@ use lib.Dec.{eqb, ltb}
 use borrow.Author.Tests.{eqb-true, eqb-false, ne_eqb, not-true}
 use Rattle.basics.proofs.Tests.{by, tests, all_below, all-at}
 use Rattle.claim_file.specs.Bytes.{byte_at, two_at}
-use Rattle.claim_file.specs.Block.{check_sum, check_of}
+use Rattle.claim_file.specs.Block.{check_sum, check_number}
 
 -- the check's sum goes by the bytes that it sums
 pub check-sum-cong : (a b : List ℕ) (n : ℕ) → ((k : ℕ) → k < n → byte_at a k ≡ byte_at b k) → check_sum a n ≡ check_sum b n
@@ -94,12 +94,12 @@ differ a b v low high old new other w x e q =
 
 -- the check of a block and the one that it carries, after one byte changed
 module _ (bytes : List ℕ) (i v : ℕ) (long : length bytes ≡ 512) (place : i < 512) (old : byte_at bytes i < 256) (new : v < 256)
-    (other : v ≡ byte_at bytes i → ⊥) (sound : check_of bytes ≡ two_at bytes 510) where
+    (other : v ≡ byte_at bytes i → ⊥) (sound : check_number bytes ≡ two_at bytes 510) where
   fits : i < length bytes
   fits = omega arith
 
-  summed : i < 510 → check_of (set bytes i v) ≡ two_at (set bytes i v) 510 → ⊥
-  unfolding check_of two_at
+  summed : i < 510 → check_number (set bytes i v) ≡ two_at (set bytes i v) 510 → ⊥
+  unfolding check_number two_at
   summed h e =
       let l = elsewhere bytes i v fits 510 (λ q. omega arith) in
       let u = elsewhere bytes i v fits 511 (λ q. omega arith) in
@@ -107,8 +107,8 @@ module _ (bytes : List ℕ) (i v : ℕ) (long : length bytes ≡ 512) (place : i
       (moved bytes i v fits 510 h)
       (omega arith)
 
-  carried : 510 ≤ i → check_of (set bytes i v) ≡ two_at (set bytes i v) 510 → ⊥
-  unfolding check_of two_at
+  carried : 510 ≤ i → check_number (set bytes i v) ≡ two_at (set bytes i v) 510 → ⊥
+  unfolding check_number two_at
   carried h e =
       let w = ap (λ (k : ℕ). k % 65521) (before bytes i v fits 510 h) in
       by (eqb i 510) (λ _. ⊥)
@@ -127,5 +127,5 @@ module _ (bytes : List ℕ) (i v : ℕ) (long : length bytes ≡ 512) (place : i
       other (omega arith))
 
   pub check-refused : eqb (check_sum (set bytes i v) 510 % 65521) (two_at (set bytes i v) 510) ≡ false
-  unfolding check_of
-  check-refused = ne_eqb _ _ (by (ltb i 510) (λ _. check_of (set bytes i v) ≡ two_at (set bytes i v) 510 → ⊥) (λ t. summed (omega tests)) (λ t. carried (omega tests)))
+  unfolding check_number
+  check-refused = ne_eqb _ _ (by (ltb i 510) (λ _. check_number (set bytes i v) ≡ two_at (set bytes i v) 510 → ⊥) (λ t. summed (omega tests)) (λ t. carried (omega tests)))

@@ -15,7 +15,7 @@ use Rattle.basics.proofs.Tests.{and_left, and_right}
 use Rattle.basics.proofs.Tables.{table-length, table_at, at-most-list, at-most-at}
 use Rattle.claim_file.specs.Bytes.{byte_at}
 use Rattle.claim_file.specs.Block.{check_sum}
-use Rattle.claim_file.specs.Private.{row_at, plus_row, columns_sum}
+use Rattle.claim_file.specs.design.Private.{row_at, plus_row, columns_sum}
 
 check-sum-step : (bytes : List ℕ) (n : ℕ) → check_sum bytes (n + 1) ≡ check_sum bytes n + (n + 1) * byte_at bytes n
 unfolding check_sum

@@ -1,5 +1,5 @@
 -- A run with corrections step by step, as the code's loops go: the sound blocks counted one at a time, the records added one at a time but for the
--- superseded ones, and what a run answers behind each check.
+-- struck ones, and what a run answers behind each check.
 -- Assumes nothing.
 use Prim.Native.Nat.{ℕ, zero, suc, ◌+◌, ◌-◌, ◌*◌, ◌/◌, ◌%◌, ◌≤◌, ◌<◌}
 use mathlib.Core.Path.{◌≡◌, refl, sym, ap, subst, ◌∙◌}
@@ -20,7 +20,7 @@ use Rattle.claim_file.specs.Bytes.{byte_at}
 use Rattle.claim_file.specs.Block.{block_claim, block_sound}
 use Rattle.claim_file.specs.Run.{Adding}
 use Rattle.claim_file.specs.Corrections.{PlacedClaim, records_of_block, records_of_blocks, file_records, sound_blocks, sound_all, has_number, last_ones, records_added, corrected_run_with}
-use Rattle.claim_file.specs.Marks.{numbers_of, among, superseded, marked, MarksSuperseded, unsound_at}
+use Rattle.claim_file.specs.design.Marks.{numbers_of, among, struck, marked, MarksStruck, unsound_at}
 use Rattle.claim_file.proofs.Runs.{sound, sound-due}
 use Rattle.claim_file.proofs.BlockZero.{sound-first, sound-file, file-records}
 use Rattle.claim_file.proofs.RunRecords.{window_answer}
@@ -98,7 +98,7 @@ block-sound bytes s b h =
     let e : 0 + b ≡ b = omega arith in
     subst (λ (m : ℕ). block_sound m (block_of bytes b) ≡ true) e (sound-at 0 bytes (length bytes / 512) (all_sound bytes s).count_so b h)
 
--- Which records are superseded: of those left, the first is where its number stands again behind it
+-- Which records are struck: of those left, the first is where its number stands again behind it
 later_number : List PlacedClaim → Bool
 later_number [] = false
 later_number (r ∷ rs) = has_number r.claim.number rs
@@ -108,8 +108,8 @@ unfolding among numbers_of has_number
 among-numbers x [] = refl
 among-numbers x (r ∷ rs) = ap (λ (t : Bool). eqb r.claim.number x || t) (among-numbers x rs)
 
-later-numbers : (i : ℕ) (rs : List PlacedClaim) → superseded (numbers_of rs) i ≡ later_number (drop i rs)
-unfolding superseded among numbers_of later_number
+later-numbers : (i : ℕ) (rs : List PlacedClaim) → struck (numbers_of rs) i ≡ later_number (drop i rs)
+unfolding struck among numbers_of later_number
 later-numbers zero [] = refl
 later-numbers zero (r ∷ rs) = among-numbers r.claim.number rs
 later-numbers (suc i) [] = refl
@@ -119,7 +119,7 @@ module _ (all : List PlacedClaim) (i : ℕ) (x : PlacedClaim) (rest : List Place
   pub within_all : i < length all
   within_all = omega (arith, ap length e, length-drop i all)
 
-  pub marked-later : (marks : List ℕ) → MarksSuperseded marks (numbers_of all) → marked marks i ≡ has_number x.claim.number rest
+  pub marked-later : (marks : List ℕ) → MarksStruck marks (numbers_of all) → marked marks i ≡ has_number x.claim.number rest
   unfolding later_number
   marked-later marks m = m i (omega (arith, numbers-length all, within_all)) ∙ later-numbers i all ∙ ap later_number e
 
@@ -254,7 +254,7 @@ pub file-done : (bytes : List ℕ) (b : ℕ) → length bytes / 512 ≤ b → la
 unfolding records_of_blocks
 file-done bytes b h = let p : length bytes / 512 - b ≡ 0 = omega arith in ap (records_from bytes b) p
 
--- One record added, unless it is superseded
+-- One record added, unless it is struck
 module _ (add : Adding) (x : PlacedClaim) (t : Bool) (s : Study) where
   pub none-added : t ≡ true → go s ≡ records_added add s (or_none t x)
   unfolding records_added

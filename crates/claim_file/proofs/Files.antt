@@ -35,7 +35,7 @@ use Rattle.claim_file.specs.RoundTrip.{DateFits}
 use Rattle.claim_file.proofs.BlockTests.{window_block-length}
 use Rattle.claim_file.proofs.BlockTrips.{window-sound, window-first, window-last}
 use Rattle.claim_file.proofs.Runs.{sound}
-use Rattle.claim_file.proofs.Feeding.{fed-in-pieces}
+use Rattle.claim_file.proofs.FedInPieces.{fed-in-pieces}
 
 -- a run without its window
 pub record Plain : Type 0 where

@@ -18,7 +18,7 @@ use Rattle.claim_file.specs.declared.LentRun.{LentRun}
 use Rattle.claim_file.specs.Runs.{FileRun}
 use Rattle.claim_file.specs.Block.{block_claim, claim_count}
 use Rattle.claim_file.specs.Run.{Adding, begun, going_on, stops, claims_from, block_fed, blocks_fed, part_fed, fed}
-use Rattle.claim_file.specs.LentRuns.{run_with}
+use Rattle.claim_file.specs.design.LentRuns.{with_sums}
 use Rattle.claim_file.proofs.Stops.{stop-number, no-stop-number}
 use Rattle.claim_file.proofs.Runs.{blocks-refused, fed-refused}
 
@@ -73,13 +73,13 @@ due-fed r add bytes h =
     (λ _ g. due-blocks (length bytes / 512) r add bytes g) h
 
 module _ (run : LentRun) (sums : List ℤ) (add : Adding) (bytes : List ℕ) where
-  pub stopped-fed : is_some run.stop ≡ true → fed (run_with run sums) add bytes ≡ run_with run sums
-  unfolding run_with
-  stopped-fed h = fed-refused (run_with run sums) add bytes (stop-number run.stop h)
+  pub stopped-fed : is_some run.stop ≡ true → fed (with_sums run sums) add bytes ≡ with_sums run sums
+  unfolding with_sums
+  stopped-fed h = fed-refused (with_sums run sums) add bytes (stop-number run.stop h)
 
-  pub due-rises : (next : LentRun) (after : List ℤ) → run_with next after ≡ fed (run_with run sums) add bytes → is_some next.stop ≡ false
+  pub due-rises : (next : LentRun) (after : List ℤ) → with_sums next after ≡ fed (with_sums run sums) add bytes → is_some next.stop ≡ false
       → next.due ≡ run.due + length bytes / 512
-  unfolding run_with
+  unfolding with_sums
   due-rises next after e h =
       let free = sym (ap (λ (r : FileRun). r.refused) e) ∙ no-stop-number next.stop h in
-      ap (λ (r : FileRun). r.due) e ∙ due-fed (run_with run sums) add bytes free
+      ap (λ (r : FileRun). r.due) e ∙ due-fed (with_sums run sums) add bytes free

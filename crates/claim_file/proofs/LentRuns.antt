@@ -16,14 +16,14 @@ use Rattle.claim_months.specs.Windows.{window_in}
 use Rattle.claim_months.proofs.DateWindows.{window-refused}
 use Rattle.study.specs.Answers.{Answer}
 use Rattle.study.specs.Study.{fresh, first_day_alone, opened_with, opened}
-use Rattle.study.specs.PreparedAdding.{lent_study}
+use Rattle.study.specs.design.PreparedAdding.{lent_study}
 use Rattle.claim_file.specs.Runs.{FileRun}
 use Rattle.claim_file.specs.declared.LentRun.{LentRun}
 use Rattle.claim_file.specs.Bytes.{date_from}
 use Rattle.claim_file.specs.Block.{claim_count, block_sound}
 use Rattle.claim_file.specs.Run.{Adding, begun, going_on, stops, claims_from, block_fed, fed}
-use Rattle.claim_file.specs.LentRuns.{run_with}
-use Rattle.claim_file.specs.Private.{block_begun, lent_stops, lent_goes_on}
+use Rattle.claim_file.specs.design.LentRuns.{with_sums}
+use Rattle.claim_file.specs.design.Private.{block_begun, lent_stops, lent_goes_on}
 use Rattle.claim_file.proofs.Runs.{begun-sound, claims-due, fed-refused, fed-turn}
 use Rattle.std.specs.Prelude.{Err}
 
@@ -94,10 +94,10 @@ module _ (r : FileRun) (add : Adding) (bytes part : List ℕ) (p : part ≡ take
 -- a run that stops or goes on, with the sums so far
 module _ (r : LentRun) (from sums : List ℤ) (taken : ℕ) where
   pub stops-with : (refusal : Refusal) (place : ℕ)
-      → run_with (lent_stops r taken refusal place) sums ≡ stops (run_with r from) (lent_study r.window.window taken sums) (number_of refusal) place
-  unfolding run_with lent_stops stops
+      → with_sums (lent_stops r taken refusal place) sums ≡ stops (with_sums r from) (lent_study r.window.window taken sums) (number_of refusal) place
+  unfolding with_sums lent_stops stops
   stops-with refusal place = refl
 
-  pub goes-on-with : run_with (lent_goes_on r taken) sums ≡ going_on (run_with r from) (lent_study r.window.window taken sums)
-  unfolding run_with lent_goes_on going_on
+  pub goes-on-with : with_sums (lent_goes_on r taken) sums ≡ going_on (with_sums r from) (lent_study r.window.window taken sums)
+  unfolding with_sums lent_goes_on going_on
   goes-on-with = refl

@@ -1,17 +1,17 @@
--- `RoundTrip`: the round trips of the calls. `Feeding`: a file in pieces. `LentFed`: a run fed, as the code sees it. `Files`: demand 3 for files.
--- `SameRuns`: runs with a prepared table. `OlderRuns`: files from before document 02's Nos. 4 and 7. `Struck` and `CorrectedFiles`: document 02's
+-- `RoundTrip`: the round trips of the calls. `FedInPieces`: a file in pieces. `LentFed`: a run fed, as the code sees it. `Files`: demand 3 for files.
+-- `SameRuns`: runs with a prepared table. `OlderFiles`: files from before document 02's Nos. 4 and 7. `StruckRuns` and `CorrectedDemand3`: document 02's
 -- No. 1. `Reading`: a claim block read. `ByteStores`: runs of stores, of claims' records among them. `ReadBack`: the claims of a written block.
 -- `WholeRuns`: files that run to their end. `Kept`: what adding keeps, a
--- run's study has. `Slots`, `Sorting`, `Marking`: superseded records. `CorrectedRuns`: the run with corrections step by
+-- run's study has. `Slots`, `Sorting`, `Marking`: struck records. `CorrectedRuns`: the run with corrections step by
 -- step. The other modules have what these and the proofs of the calls cite.
 pub mod RoundTrip
-pub mod Feeding
+pub mod FedInPieces
 pub mod LentFed
 pub mod Files
 pub mod SameRuns
-pub mod OlderRuns
-pub mod Struck
-pub mod CorrectedFiles
+pub mod OlderFiles
+pub mod StruckRuns
+pub mod CorrectedDemand3
 pub mod Reading
 pub mod ByteStores
 pub mod ReadBack

@@ -15,7 +15,7 @@ use Rattle.std.specs.List.Sorted.{IsPermutation}
 use Rattle.std.proofs.lemmas.List.Sorted.{IsPermutation-sym, length_permutation}
 use Rattle.basics.specs.Pick.{pick}
 use Rattle.basics.proofs.Tests.{by, tests, all_below, all-at}
-use Rattle.claim_file.specs.Marks.{among, superseded, marked, repeated, key_of, most_key, KeysTaken, KeyAt, ChunkKeys, HasLater, MarksTo, MarksBetween, AllZero}
+use Rattle.claim_file.specs.design.Marks.{among, struck, marked, repeated, key_of, most_key, KeysTaken, KeyAt, ChunkKeys, HasLater, MarksTo, MarksBetween, AllZero}
 use Rattle.claim_file.proofs.Sorting.{key-moved}
 
 -- bit j of the m-th power of two, of eight bits
@@ -146,8 +146,8 @@ repeated-on xs i s e h t =
     let b = a.before in
     repeated-in xs i a.at e a.behind (omega arith) a.within a.is
 
-repeated-all : (xs : List ℕ) (i : ℕ) → repeated xs i (length xs) ≡ superseded xs i
-unfolding repeated superseded
+repeated-all : (xs : List ℕ) (i : ℕ) → repeated xs i (length xs) ≡ struck xs i
+unfolding repeated struck
 repeated-all xs i = ap (λ (ys : List ℕ). among (get_or xs i 0) (drop (suc i) ys)) (take-length xs)
 
 -- what the keys of a chunk, the last records before e, say of record i before e
@@ -217,7 +217,7 @@ between-same marks xs i s e b t =
 pub marks-first : (marks xs : List ℕ) → AllZero marks → MarksTo marks xs 0
 marks-first marks xs z i = none-marked marks z i ∙ sym (repeated-past xs i 0 (omega arith))
 
-pub marks-last : (marks xs : List ℕ) → MarksTo marks xs (length xs) → (i : ℕ) → marked marks i ≡ superseded xs i
+pub marks-last : (marks xs : List ℕ) → MarksTo marks xs (length xs) → (i : ℕ) → marked marks i ≡ struck xs i
 marks-last marks xs h i = h i ∙ repeated-all xs i
 
 -- keys of a chunk have 48 bits

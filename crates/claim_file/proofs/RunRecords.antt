@@ -23,7 +23,8 @@ use Rattle.claim_file.specs.Bytes.{date_from}
 use Rattle.claim_file.specs.Block.{block_claim, claim_count, block_sound}
 use Rattle.claim_file.specs.BlockAnswers.{no_claim}
 use Rattle.claim_file.specs.Run.{Adding, started, begun, going_on, stops, claims_from, block_fed, blocks_fed, part_fed, fed, ended, file_run_with}
-use Rattle.claim_file.specs.Corrections.{PlacedClaim, records_of_block, records_of_blocks, file_records, claims_of, blocks_of, places_of, sound_blocks, records_added, SameStop}
+use Rattle.claim_file.specs.Corrections.{PlacedClaim, records_of_block, records_of_blocks, file_records, claims_of, blocks_of, places_of, sound_blocks, records_added}
+use Rattle.claim_file.specs.StruckRuns.{SameStop}
 use Rattle.claim_file.proofs.Runs.{sound, blocks-refused, fed-block, stops-refused}
 use Rattle.claim_file.proofs.BlockZero.{first-date, sound-first, SoundFile, file-records}
 

@@ -4,11 +4,12 @@ use Prim.Native.Nat.{ℕ}
 use mathlib.Core.Path.{◌≡◌, ap, fun_ext}
 use mathlib.Core.List.{List}
 use Rattle.rates.specs.declared.Kind.TheVariants.{Plain, Prepared}
-use Rattle.rates.specs.Prepared.{prepared_of}
-use Rattle.study.proofs.EitherTable.{same-adding}
+use Rattle.rates.specs.design.Prepared.{prepared_of}
+use Rattle.study.proofs.SameAdding.{same-adding}
 use Rattle.claim_file.specs.Run.{Adding, adding, fed, file_run_with}
 use Rattle.claim_file.specs.Corrections.{corrected_run_with}
-use Rattle.claim_file.specs.PreparedRuns.{adding_with, SameRuns}
+use Rattle.claim_file.specs.design.PreparedRuns.{adding_with}
+use Rattle.claim_file.specs.design.SameRuns.{SameRuns}
 
 plain-is : (rates : List ℕ) → adding_with Plain rates ≡ adding rates
 plain-is rates = fun_ext (λ s. fun_ext (λ c. same-adding.plain s c rates))

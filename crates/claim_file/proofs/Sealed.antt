@@ -10,15 +10,15 @@ use lib.ListN.{length, get_or, drop, length-append, drop_of_length-le, get_or-ap
 use lib.Seq.{get_or-append-add}
 use borrow.Author.Tests.{eqb-true, eq-eqb}
 use Rattle.claim_file.specs.Bytes.{byte_at, two_at, zero_from, two, zeros}
-use Rattle.claim_file.specs.Block.{block_number, claim_count, check_of, framed, sealed}
+use Rattle.claim_file.specs.Block.{block_number, claim_count, check_number, framed, sealed}
 use Rattle.claim_file.proofs.BlockTests.{framed_is, framed-length}
 use Rattle.claim_file.proofs.Changed.{check-sum-cong}
 use Rattle.claim_file.proofs.ByteStores.{length-zeros}
 use Rattle.claim_file.proofs.Split.{part, part-split, zero-split, two-read}
 
 -- the check goes by the first 510 bytes
-pub check-append : (bytes rest : List ℕ) → length bytes ≡ 510 → check_of (bytes ++ rest) ≡ check_of bytes
-unfolding check_of byte_at
+pub check-append : (bytes rest : List ℕ) → length bytes ≡ 510 → check_number (bytes ++ rest) ≡ check_number bytes
+unfolding check_number byte_at
 check-append bytes rest h =
     ap (λ (w : ℕ). w % 65521) (check-sum-cong (bytes ++ rest) bytes 510 (λ i b. get_or-append bytes rest 0 i (omega arith)))
 
@@ -29,20 +29,20 @@ two-whole n h =
     let e : n / 256 % 256 ≡ n / 256 = mod-eq_of_lt l in
     omega arith
 
-check-small : (bytes : List ℕ) → check_of bytes < 65536
-unfolding check_of
+check-small : (bytes : List ℕ) → check_number bytes < 65536
+unfolding check_number
 check-small bytes = omega arith
 
 -- the check that a sealed list carries
-carried : (bytes : List ℕ) → length bytes ≡ 510 → two_at (sealed bytes) 510 ≡ check_of bytes
+carried : (bytes : List ℕ) → length bytes ≡ 510 → two_at (sealed bytes) 510 ≡ check_number bytes
 unfolding sealed two_at byte_at
 carried bytes h =
-    let t = two (check_of bytes) in
+    let t = two (check_number bytes) in
     let l : 510 ≡ length bytes + 0 = omega arith in
     let u : 511 ≡ length bytes + 1 = omega arith in
     let a = ap (λ (n : ℕ). get_or (bytes ++ t) n 0) l ∙ get_or-append-add bytes t 0 0 in
     let b = ap (λ (n : ℕ). get_or (bytes ++ t) n 0) u ∙ get_or-append-add bytes t 1 0 in
-    (λ i. a i + 256 * b i) ∙ two-whole (check_of bytes) (check-small bytes)
+    (λ i. a i + 256 * b i) ∙ two-whole (check_number bytes) (check-small bytes)
 
 -- a number, a count, 13 zeros and the rest
 abbrev pub body : ℕ → ℕ → List ℕ → List ℕ
@@ -56,23 +56,23 @@ module _ (number count : ℕ) (middle : List ℕ) (long : length middle ≡ 494)
   unfolding sealed
   sealed-length =
       let b = body number count middle in
-      let a = length-append b (two (check_of b)) in
+      let a = length-append b (two (check_number b)) in
       let l = body-length in
       omega arith
 
   pub sealed-framed : number < 65536 → framed number (sealed (body number count middle)) ≡ true
-  unfolding sealed two_at byte_at zeros zero_from check_of
+  unfolding sealed two_at byte_at zeros zero_from check_number
   sealed-framed h =
       let b = body number count middle in
       let l = body-length in
       framed_is number (sealed b)
       (eq-eqb _ _ sealed-length)
       (eq-eqb _ _ (two-whole number h))
-      (eq-eqb _ _ (check-append b (two (check_of b)) l ∙ sym (carried b l)))
+      (eq-eqb _ _ (check-append b (two (check_number b)) l ∙ sym (carried b l)))
       refl
 
 pub sealed-drop : (number count : ℕ) (middle : List ℕ)
-    → drop 16 (sealed (body number count middle)) ≡ middle ++ two (check_of (body number count middle))
+    → drop 16 (sealed (body number count middle)) ≡ middle ++ two (check_number (body number count middle))
 unfolding sealed zeros
 sealed-drop number count middle = refl
 
@@ -82,12 +82,12 @@ module _ (due : ℕ) (bytes middle : List ℕ) (so : framed due bytes ≡ true) 
   size : length bytes ≡ 512
   size = framed-length due bytes so
 
-  last : drop 510 bytes ≡ two (check_of bytes)
+  last : drop 510 bytes ≡ two (check_number bytes)
   unfolding framed block_number part
   last =
       let t = simp and-eq-true_iff at so in
       let n = size in
-      let c : two_at bytes 510 ≡ check_of bytes = sym (eqb-true _ _ t.0.1) in
+      let c : two_at bytes 510 ≡ check_number bytes = sym (eqb-true _ _ t.0.1) in
       part-split bytes 2 510 (omega arith)
       ∙ ap (λ (r : List ℕ). byte_at bytes 510 ∷ byte_at bytes 511 ∷ r) (drop_of_length-le bytes {i = 512} (omega arith))
       ∙ sym (two-read bytes 510 (small 510 (omega arith)) (small 511 (omega arith)))
@@ -107,6 +107,6 @@ module _ (due : ℕ) (bytes middle : List ℕ) (so : framed due bytes ≡ true) 
   unfolding sealed
   sealed-again =
       let b = body due (claim_count bytes) middle in
-      let c : check_of b ≡ check_of bytes =
-      sym (ap check_of whole ∙ check-append b (drop 510 bytes) (body-length due (claim_count bytes) middle long)) in
+      let c : check_number b ≡ check_number bytes =
+      sym (ap check_number whole ∙ check-append b (drop 510 bytes) (body-length due (claim_count bytes) middle long)) in
       ap (λ (k : ℕ). b ++ two k) c ∙ ap (λ (r : List ℕ). b ++ r) (sym last) ∙ sym whole

@@ -15,7 +15,7 @@ use Rattle.claim_file.specs.Bytes.{byte_at, two_at, four_at}
 use Rattle.claim_file.specs.Record.{claim_from}
 use Rattle.claim_file.specs.Block.{claim_count, block_claim, block_sound}
 use Rattle.claim_file.specs.Corrections.{PlacedClaim, records_of_block, records_of_blocks, file_records, sound_blocks, sound_all}
-use Rattle.claim_file.specs.Marks.{numbers_of, slot_filled, slot_numbers, numbers_from, NextRecord}
+use Rattle.claim_file.specs.design.Marks.{numbers_of, slot_filled, slot_numbers, numbers_from, NextRecord}
 use Rattle.claim_file.proofs.Runs.{sound}
 
 -- the count of a slot's block

@@ -16,29 +16,29 @@ use Rattle.claim_file.specs.declared.Block.{Block}
 use Rattle.claim_file.specs.BlockAnswers.{write_sound, write_check, bytes_after, window_after}
 use Rattle.claim_file.specs.Bytes.{two, date_bytes, zeros}
 use Rattle.claim_file.specs.Record.{all_claim_bytes}
-use Rattle.claim_file.specs.Block.{check_of, sealed, window_bytes, bytes_of_block}
+use Rattle.claim_file.specs.Block.{check_number, sealed, window_bytes, bytes_of_block}
 use Rattle.claim_file.proofs.Sealed.{check-append}
 use Rattle.basics.proofs.Stores.{run}
 use Rattle.claim_file.proofs.ByteStores.{sets-all, length-zeros, length-all}
 
 -- the check goes by the first 510 bytes
-pub check-stored : (l bytes : List ℕ) → length l ≡ 512 → length bytes ≡ 510 → check_of (sets l 0 bytes) ≡ check_of bytes
-check-stored l bytes h k = ap check_of (sets-eq bytes l 0 (omega arith)) ∙ check-append bytes (drop (0 + length bytes) l) k
+pub check-stored : (l bytes : List ℕ) → length l ≡ 512 → length bytes ≡ 510 → check_number (sets l 0 bytes) ≡ check_number bytes
+check-stored l bytes h k = ap check_number (sets-eq bytes l 0 (omega arith)) ∙ check-append bytes (drop (0 + length bytes) l) k
 
-seal : (l a b bytes : List ℕ) → length l ≡ 512 → length bytes ≡ 510 → a ≡ sets l 0 bytes → b ≡ sets a 510 (two (check_of a)) → b ≡ sealed bytes
+seal : (l a b bytes : List ℕ) → length l ≡ 512 → length bytes ≡ 510 → a ≡ sets l 0 bytes → b ≡ sets a 510 (two (check_number a)) → b ≡ sealed bytes
 unfolding sealed
 seal l a b bytes h k p q =
-    let n = length-append bytes (two (check_of bytes)) in
-    run l a b bytes (two (check_of a)) 0 510 (omega arith) p q
-    ∙ ap (λ (c : ℕ). sets l 0 (bytes ++ two c)) (ap check_of p ∙ check-stored l bytes h k)
-    ∙ sets-all l (bytes ++ two (check_of bytes)) (omega arith)
+    let n = length-append bytes (two (check_number bytes)) in
+    run l a b bytes (two (check_number a)) 0 510 (omega arith) p q
+    ∙ ap (λ (c : ℕ). sets l 0 (bytes ++ two c)) (ap check_number p ∙ check-stored l bytes h k)
+    ∙ sets-all l (bytes ++ two (check_number bytes)) (omega arith)
 
 -- the head, what stands from byte 16 on, zeros and the check
 written : (l a b d e head middle : List ℕ) (j z : ℕ) → length l ≡ 512 → length head ≡ 16 → j ≡ 16 + length middle → j + z ≡ 510
     → a ≡ sets l 0 head
     → b ≡ sets a 16 middle
     → d ≡ sets b j (zeros z)
-    → e ≡ sets d 510 (two (check_of d))
+    → e ≡ sets d 510 (two (check_number d))
     → e ≡ sealed (head ++ (middle ++ zeros z))
 written l a b d e head middle j z h s m f p q r t =
     let x = length-append head middle in
@@ -59,7 +59,7 @@ pub block_written : (l a b d e : List ℕ) (number count : ℕ) (cs : List Claim
     → a ≡ sets l 0 (head_bytes number count)
     → b ≡ sets a 16 (all_claim_bytes cs)
     → d ≡ sets b (16 + 32 * count) (zeros (510 - (16 + 32 * count)))
-    → e ≡ sets d 510 (two (check_of d))
+    → e ≡ sets d 510 (two (check_number d))
     → e ≡ bytes_of_block number cs
 unfolding bytes_of_block
 block_written l a b d e number count cs h n f p q r t =
@@ -75,7 +75,7 @@ pub window-written : (l a b d e f : List ℕ) (first last : Date) → length l �
     → b ≡ sets a 16 (date_bytes first)
     → d ≡ sets b 20 (date_bytes last)
     → e ≡ sets d 24 (zeros 486)
-    → f ≡ sets e 510 (two (check_of e))
+    → f ≡ sets e 510 (two (check_number e))
     → f ≡ window_bytes first last
 unfolding window_bytes
 window-written l a b d e f first last h p q r t u =

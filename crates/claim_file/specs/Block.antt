@@ -22,8 +22,8 @@ unfoldable pub check_sum : List ℕ → ℕ → ℕ
 check_sum bytes zero = 0
 check_sum bytes (suc n) = check_sum bytes n + (n + 1) * byte_at bytes n
 
-unfoldable pub check_of : List ℕ → ℕ
-check_of bytes = check_sum bytes 510 % 65521
+unfoldable pub check_number : List ℕ → ℕ
+check_number bytes = check_sum bytes 510 % 65521
 
 -- the bytes past the fields of the first n claims are zero
 unfoldable pub claims_padded : List ℕ → ℕ → Bool
@@ -33,7 +33,7 @@ claims_padded bytes (suc n) = claims_padded bytes n && record_padded bytes (16 +
 -- 11, block: length, number, count, zero bytes or check wrong. Block 0 has count 0 and the window's dates at 16 and 20
 unfoldable pub framed : ℕ → List ℕ → Bool
 framed due bytes =
-    eqb (length bytes) block_bytes && eqb (block_number bytes) due && eqb (check_of bytes) (two_at bytes 510) && zero_from bytes 3 13
+    eqb (length bytes) block_bytes && eqb (block_number bytes) due && eqb (check_number bytes) (two_at bytes 510) && zero_from bytes 3 13
 
 unfoldable pub window_block : List ℕ → Bool
 window_block bytes = framed 0 bytes && eqb (claim_count bytes) 0 && zero_from bytes 24 486
@@ -49,7 +49,7 @@ block_sound due bytes = pick (eqb due 0) (window_block bytes) (claim_block due b
 
 -- a block's first 510 bytes with its check behind them
 unfoldable pub sealed : List ℕ → List ℕ
-sealed bytes = bytes ++ two (check_of bytes)
+sealed bytes = bytes ++ two (check_number bytes)
 
 -- block 0 of a window, and the block of a number and up to 15 claims
 unfoldable pub window_bytes : Date → Date → List ℕ

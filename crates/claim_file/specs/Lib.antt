@@ -5,11 +5,11 @@ pub mod Block
 pub mod BlockAnswers
 pub mod Runs
 pub mod Run
-pub mod PreparedRuns
-pub mod LentRuns
+pub mod FedInPieces
 pub mod Files
 pub mod RoundTrip
 pub mod OlderFiles
 pub mod Corrections
-pub mod Private
-pub mod Marks
+pub mod CorrectedDemand3
+pub mod StruckRuns
+pub mod design

@@ -109,7 +109,7 @@ pub record RunsAsBefore (l : Layout) : Type 0 where
   pub runs : (add : Adding) (bytes : List ℕ) → older_blocks l 0 bytes (length bytes / block_bytes) ≡ true → older_run l add bytes ≡ file_run_with add bytes
 
 -- So it is for both layouts; a table of up to 64 cells has the same checks, and a claim without a benefit has, and counts as it did: its weight is 1.
--- `proofs/OlderRuns.antt` proves it
+-- `proofs/OlderFiles.antt` proves it
 pub record OlderFiles : Type 0 where
   pub before_four : RunsAsBefore layout_before_four
   pub before_seven : RunsAsBefore layout_before_seven

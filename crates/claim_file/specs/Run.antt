@@ -1,5 +1,5 @@
 -- Document 01, Claim file: a file run takes blocks 0, 1, 2, .. in order and stops at the first refusal.
-use Rattle.std.specs.Prelude.{ℕ, zero, suc, ◌+◌, ◌/◌, ◌%◌, ◌≡◌, ◌&&◌, List, ◌++◌, length, take, drop, ltb, eqb}
+use Rattle.std.specs.Prelude.{ℕ, zero, suc, ◌+◌, ◌/◌, ◌%◌, ◌&&◌, List, length, take, drop, ltb, eqb}
 use Rattle.basics.specs.Limits.{block_bytes}
 use Rattle.basics.specs.Pick.{pick}
 use Rattle.basics.specs.Checks.{refuse_block}
@@ -74,7 +74,3 @@ file_run_with add bytes = ended (fed started add bytes)
 
 abbrev pub file_run : List ℕ → List ℕ → FileRun
 file_run rates bytes = file_run_with (adding rates) bytes
-
--- a file may come in pieces: after a whole number of blocks a run goes on as if all bytes had come at once; `proofs/Feeding.antt` proves it
-abbrev pub FedInPieces : Type 0
-FedInPieces = (r : FileRun) (add : Adding) (a b : List ℕ) → length a % block_bytes ≡ 0 → fed (fed r add a) add b ≡ fed r add (a ++ b)

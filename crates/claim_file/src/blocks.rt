@@ -5,7 +5,7 @@ ghost use Rattle.std.proofs.lemmas.List.Edits.{sets};
 ghost use Rattle.basics.specs.Limits.{block_bytes};
 ghost use Rattle.claim_file.specs.Bytes.{two, zeros};
 ghost use Rattle.claim_file.specs.Record.{all_claim_bytes};
-ghost use Rattle.claim_file.specs.Block.{claim_count, block_claim, claims_padded, framed, window_block, claim_block, block_sound, check_of, window_bytes, bytes_of_block};
+ghost use Rattle.claim_file.specs.Block.{claim_count, block_claim, claims_padded, framed, window_block, claim_block, block_sound, check_number, window_bytes, bytes_of_block};
 ghost use Rattle.claim_file.specs.BlockAnswers.{claims_in, block_check, read_of, read_by_number, window_of, write_check, bytes_after, window_after};
 ghost use Rattle.basics.specs.Pick.{pick};
 ghost use Rattle.basics.specs.Refused.{number_refused, numbered};
@@ -156,9 +156,9 @@ fn put_head(number: u16, count: u8, bytes: &mut [u8; BLOCK_BYTES])
 }
 
 // Stores the check of the bytes before it.
-#[tactic(auto, unfolding(crate::specs::Block::check_of))]
+#[tactic(auto, unfolding(crate::specs::Block::check_number))]
 fn put_check(bytes: &mut [u8; BLOCK_BYTES])
-    ensures { bytes.new ≡ sets bytes.old 510 (two (check_of bytes.old)) }
+    ensures { bytes.new ≡ sets bytes.old 510 (two (check_number bytes.old)) }
 {
     let check = check_sum(bytes) % 65521;
     put_two(check as u16, 510, bytes);

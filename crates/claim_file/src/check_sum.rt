@@ -5,7 +5,7 @@
 ghost use Rattle.std.specs.Prelude.{◌≡◌, true, ◌+◌, ◌≤◌, length};
 ghost use Rattle.basics.specs.Tables.{all_at_most};
 ghost use Rattle.claim_file.specs.Block.{check_sum};
-ghost use Rattle.claim_file.specs.Private.{row_at, plus_row, columns_sum};
+ghost use Rattle.claim_file.specs.design.Private.{row_at, plus_row, columns_sum};
 
 use basics::limits::BLOCK_BYTES;
 
@@ -36,7 +36,7 @@ fn plus_row(a: &[u16; 16], b: &[u16; 16]) -> [u16; 16]
 }
 
 // What 16 columns from a place on add to the sum: a byte weighs its column's place from 1, and 16 more with each row.
-#[tactic(auto, using(crate::proofs::CheckColumns::column_low), unfolding(crate::specs::Private::columns_sum))]
+#[tactic(auto, using(crate::proofs::CheckColumns::column_low), unfolding(crate::specs::design::Private::columns_sum))]
 fn columns_sum(sums: &[u16; 16], by_row: &[u16; 16], at: usize) -> u32
     requires sums_value { all_at_most 4080 sums.now ≡ true }
     requires by_row_value { all_at_most 65280 by_row.now ≡ true }

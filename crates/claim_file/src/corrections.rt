@@ -3,15 +3,15 @@
 ghost use Rattle.std.specs.Prelude.{◌≡◌, true, ◌/◌, ◌≤◌, length};
 ghost use Rattle.basics.specs.Limits.{block_bytes, most_records};
 ghost use Rattle.basics.specs.Refused.{number_of};
-ghost use Rattle.study.specs.PreparedAdding.{lent_study};
+ghost use Rattle.study.specs.design.PreparedAdding.{lent_study};
 ghost use Rattle.claim_file.specs.Corrections.{file_records, sound_blocks, sound_all, last_ones, records_added, corrected_run_with, corrected_run};
-ghost use Rattle.claim_file.specs.PreparedRuns.{adding_with};
+ghost use Rattle.claim_file.specs.design.PreparedRuns.{adding_with};
 ghost use Rattle.claim_file.specs.Runs.{corrected_by_number};
-ghost use Rattle.claim_file.specs.Marks.{numbers_of, MarksSuperseded, unsound_at};
+ghost use Rattle.claim_file.specs.design.Marks.{numbers_of, MarksStruck, unsound_at};
 
 use crate::blocks::{claim_at, is_sound};
 use crate::bytes::date_at;
-use crate::superseded::{Marks, is_marked, mark_superseded, record_count};
+use crate::struck::{Marks, is_marked, mark_struck, record_count};
 use crate::{CorrectedRun, FileRun, Stop};
 use basics::limits::{BLOCK_BYTES, MOST_RECORDS};
 use basics::refusal::Refusal;
@@ -55,7 +55,7 @@ fn refused(study: Study, refusal: Refusal, block: u32, place: u8) -> CorrectedRu
 }
 
 // A run refused at a block that isn't sound: no study is opened.
-#[tactic(auto, unfolding(crate::specs::Marks::unsound_at, crate::specs::Run::started))]
+#[tactic(auto, unfolding(crate::specs::design::Marks::unsound_at, crate::specs::Run::started))]
 fn unsound_at(block: u32) -> CorrectedRun
     ensures { corrected_by_number result ≡ unsound_at block }
 {
@@ -78,7 +78,7 @@ fn with_sums(study: Study, taken: u32, sums: [i64; 80]) -> Study
 fn add_kept(kind: Kind, table: &[u32], file: &[u8], marks: &Marks, study: Study) -> CorrectedRun
     requires file_value { sound_all file.now ≡ true }
     requires file_len_bound { length (file_records file.now) ≤ most_records }
-    requires marks_superseded { MarksSuperseded marks.now (numbers_of (file_records file.now)) }
+    requires marks_struck { MarksStruck marks.now (numbers_of (file_records file.now)) }
     ensures { corrected_by_number result ≡ records_added (adding_with kind table.now) study (last_ones (file_records file.now)) }
 {
     let table = rate_table(kind, table);
@@ -134,7 +134,7 @@ pub fn run_corrected_with(kind: Kind, table: &[u32], file: &[u8]) -> CorrectedRu
         return refused(study, Refusal::TooManyRecords, 0, 0);
     }
     let mut marks = [0; 7500];
-    mark_superseded(file, &mut marks);
+    mark_struck(file, &mut marks);
     add_kept(kind, table, file, &marks, study)
 }
 

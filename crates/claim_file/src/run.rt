@@ -3,10 +3,10 @@ ghost use Rattle.std.specs.Prelude.{◌≡◌, List, ◌+◌, ◌-◌, ◌≤◌
 ghost use Rattle.basics.specs.Limits.{block_bytes};
 ghost use Rattle.study.specs.Sums.{none};
 ghost use Rattle.claim_file.specs.Run.{adding, started, fed, ended, file_run_with, file_run};
-ghost use Rattle.claim_file.specs.PreparedRuns.{adding_with};
-ghost use Rattle.claim_file.specs.LentRuns.{run_with};
+ghost use Rattle.claim_file.specs.design.PreparedRuns.{adding_with};
+ghost use Rattle.claim_file.specs.design.LentRuns.{with_sums};
 ghost use Rattle.claim_file.specs.Runs.{run_by_number};
-ghost use Rattle.claim_file.specs.Private.{block_begun, lent_stops, lent_goes_on};
+ghost use Rattle.claim_file.specs.design.Private.{block_begun, lent_stops, lent_goes_on};
 
 use crate::blocks::{claim_at, is_sound};
 use crate::bytes::date_at;
@@ -32,9 +32,9 @@ fn block_end(at: usize, len: usize) -> usize
 
 impl LentRun {
     // A run before its first block: no study opened yet. Its sums are zeros.
-    #[tactic(auto, unfolding(crate::specs::LentRuns::run_with, crate::specs::Run::started, study::specs::Sums::none, study::specs::Study::fresh))]
+    #[tactic(auto, unfolding(crate::specs::design::LentRuns::with_sums, crate::specs::Run::started, study::specs::Sums::none, study::specs::Study::fresh))]
     pub fn start() -> LentRun
-        ensures { run_with result none ≡ started }
+        ensures { with_sums result none ≡ started }
     {
         let window = Window {
             first: Day(0),
@@ -49,7 +49,7 @@ impl LentRun {
     }
 
     // The run with some claims taken, refused at the block due.
-    #[tactic(auto, unfolding(crate::specs::Private::lent_stops))]
+    #[tactic(auto, unfolding(crate::specs::design::Private::lent_stops))]
     fn stopped(self, taken: u32, refusal: Refusal, place: u8) -> LentRun
         ensures { result ≡ lent_stops self taken refusal place }
     {
@@ -67,7 +67,7 @@ impl LentRun {
     }
 
     // The run after a sound block whose claims were all taken.
-    #[tactic(auto, unfolding(crate::specs::Private::lent_goes_on))]
+    #[tactic(auto, unfolding(crate::specs::design::Private::lent_goes_on))]
     fn continued(self, taken: u32) -> LentRun
         requires { self.due < 65536 }
         ensures { result ≡ lent_goes_on self taken }
@@ -81,9 +81,9 @@ impl LentRun {
     }
 
     // The run at the end of its file, whatever its sums: one without block 0 is refused 11.
-    #[tactic(auto, using(crate::proofs::Stops::stop_numbers), unfolding(crate::specs::LentRuns::run_with, crate::specs::Run::ended, crate::specs::Run::stops, crate::specs::Private::lent_stops))]
+    #[tactic(auto, using(crate::proofs::Stops::stop_numbers), unfolding(crate::specs::design::LentRuns::with_sums, crate::specs::Run::ended, crate::specs::Run::stops, crate::specs::design::Private::lent_stops))]
     pub fn end(self) -> LentRun
-        ensures { (sums : List ℤ) → run_with result sums ≡ ended (run_with self sums) }
+        ensures { (sums : List ℤ) → with_sums result sums ≡ ended (with_sums self sums) }
     {
         if self.stop.is_some() || self.due > 0 {
             return self;
@@ -92,9 +92,9 @@ impl LentRun {
     }
 
     // The run that it makes up with its sums.
-    #[tactic(auto, unfolding(crate::specs::LentRuns::run_with))]
+    #[tactic(auto, unfolding(crate::specs::design::LentRuns::with_sums))]
     pub fn with_sums(self, sums: [i64; 80]) -> FileRun
-        ensures { run_by_number result ≡ run_with self sums }
+        ensures { run_by_number result ≡ with_sums self sums }
     {
         FileRun {
             study: Study {
@@ -109,10 +109,10 @@ impl LentRun {
 }
 
 // A block begun: its window opened if it is block 0, so with no claims and zero sums; refused 11 if it is not sound.
-#[tactic(auto, using(crate::proofs::Runs::sound_size), unfolding(crate::specs::LentRuns::run_with, crate::specs::Private::block_begun, crate::specs::Private::lent_stops, crate::specs::Run::begun, crate::specs::Run::stops))]
+#[tactic(auto, using(crate::proofs::Runs::sound_size), unfolding(crate::specs::design::LentRuns::with_sums, crate::specs::design::Private::block_begun, crate::specs::design::Private::lent_stops, crate::specs::Run::begun, crate::specs::Run::stops))]
 fn begin(run: LentRun, bytes: &[u8], sums: &mut [i64; 80]) -> LentRun
     requires { IsNone run.stop }
-    ensures { run_with result sums.new ≡ block_begun (run_with run sums.old) bytes.now }
+    ensures { with_sums result sums.new ≡ block_begun (with_sums run sums.old) bytes.now }
 {
     if !is_sound(bytes, run.due) {
         return run.stopped(run.taken, Refusal::Block, 0);
@@ -141,7 +141,7 @@ pub fn feed_lent(
     from: LentRun,
     sums: &mut [i64; 80],
 ) -> LentRun
-    ensures { run_with result sums.new ≡ fed (run_with from sums.old) (adding_with kind table.now) bytes.now }
+    ensures { with_sums result sums.new ≡ fed (with_sums from sums.old) (adding_with kind table.now) bytes.now }
 {
     if from.stop.is_some() {
         return from;
@@ -178,9 +178,9 @@ pub fn feed_lent(
 
 impl FileRun {
     // The run but for its study's sums.
-    #[tactic(auto, unfolding(crate::specs::LentRuns::run_with))]
+    #[tactic(auto, unfolding(crate::specs::design::LentRuns::with_sums))]
     fn lent(self) -> LentRun
-        ensures { run_with result self.study.sums ≡ run_by_number self }
+        ensures { with_sums result self.study.sums ≡ run_by_number self }
     {
         LentRun {
             window: window_months(self.study.window),

@@ -23,7 +23,7 @@ use Rattle.claim_months.specs.Claim.{is_closed, bcd_day, termination_day, first_
 use Rattle.claim_months.specs.ClaimMonths.{bcd_month, start_in}
 use Rattle.claim_months.specs.Windows.{window_sound}
 use Rattle.claim_months.specs.Exposure.{closed_in, exposed_from, exposed_to, closing_u, month_u, closing_category}
-use Rattle.claim_months.specs.Private.{as_day, month_day, with_months, Placed, SoundWindow, starts_of, checked_of, Stands, start_at, start_of, closing_at, closing_within, later_of, from_of, to_at, to_of, closing_of, u_at, category_at}
+use Rattle.claim_months.specs.design.Private.{as_day, month_day, with_months, Placed, SoundWindow, starts_of, checked_of, Stands, start_at, start_of, closing_at, closing_within, later_of, from_of, to_at, to_of, closing_of, u_at, category_at}
 use Rattle.claim_months.proofs.Picked.{picked, unpicked}
 use Rattle.claim_months.proofs.Sound.{Sound, sound}
 use Rattle.claim_months.proofs.Months.{start-early, start-late, start-low, start-high}

@@ -1,8 +1,8 @@
 -- `Picked`: an answer that a test picked. `Sound`: what the checks 2 to 5 say. `Months`: the claim months follow one another.
 -- `Settled`: a month's thirtieths as a difference of what is settled before two days. `Additive`, `Closing`: what adds up over a cut.
--- `DateWindows`: the window of two dates. `Parts`, `Adds`: the same over any parts of a window. `MonthRuns`, `Spans`: the records are those of consecutive claim months. `Bands`: some months of a span at once. `Walks`: the walk that ends with the exposure. `ChangesOfDefinition`: code 6 is counted as a recovery.
+-- `DateWindows`: the window of two dates. `Parts`, `Adds`: the same over any parts of a window. `MonthRuns`, `Spans`: the records are those of consecutive claim months. `SpanIsBand`: some months of a span at once. `Walk`: the walk that ends with the exposure. `ChangeOfDefinition`: code 6 is counted as a recovery.
 -- `Checked`: the checked value of a claim. `SpanCode`: what the code of a span rests on.
--- `Ranges`: thirtieths, durations and categories of the records. `Rows`: the listing's rows. `RowTurns`: what the loop keeps that writes them. `DurationTotals`: each duration adds up. `ClaimFigures`: document 01's figures.
+-- `Ranges`: thirtieths, durations and categories of the records. `Rows`: the listing's rows. `RowTurns`: what the loop keeps that writes them. `Durations`: each duration adds up. `ClaimFigures`: document 01's figures.
 mod Picked
 pub mod Sound
 pub mod Months
@@ -13,7 +13,7 @@ pub mod DateWindows
 pub mod Closing
 pub mod MonthRuns
 pub mod Spans
-pub mod Bands
+pub mod SpanIsBand
 pub mod SpanAnswers
 mod Checked
 mod SpanCode
@@ -22,7 +22,7 @@ mod SignedRecords
 mod Rows
 mod RowTurns
 pub mod Adds
-pub mod Walks
-pub mod ChangesOfDefinition
-pub mod DurationTotals
+pub mod Walk
+pub mod ChangeOfDefinition
+pub mod Durations
 pub mod ClaimFigures

@@ -19,7 +19,7 @@ use Rattle.claim_months.specs.ClaimMonths.{bcd_month, start_in, month_first}
 use Rattle.claim_months.specs.Exposure.{exposed_from, exposed_to, MonthRecord, month_record, month_records}
 use Rattle.claim_months.specs.Listing.{row, rows}
 use Rattle.claim_months.specs.Span.{SpanBounds}
-use Rattle.claim_months.specs.Private.{Placed, SoundWindow, Stands, start_of, from_of, to_of, MonthsFor, RowBounds, span_record}
+use Rattle.claim_months.specs.design.Private.{Placed, SoundWindow, Stands, start_of, from_of, to_of, MonthsFor, RowBounds, span_record}
 use Rattle.claim_months.proofs.Months.{bcd-low, next-starts}
 use Rattle.claim_months.proofs.Spans.{span-bounds}
 use Rattle.claim_months.proofs.Checked.{claim-sound, bcd-month-is, start_is, start-placed, from_is, to_is}

@@ -21,7 +21,7 @@ use Rattle.claim_months.specs.ClaimMonths.{bcd_month, start_in, month_first, mon
 use Rattle.claim_months.specs.Exposure.{exposed_from, exposed_to, MonthRecord, month_record, month_records}
 use Rattle.claim_months.specs.Span.{span_of}
 use Rattle.claim_months.specs.Listing.{row, rows}
-use Rattle.claim_months.specs.Private.{Begins, RowBounds, span_record}
+use Rattle.claim_months.specs.design.Private.{Begins, RowBounds, span_record}
 use Rattle.claim_months.proofs.Sound.{Sound}
 use Rattle.claim_months.proofs.Months.{start-low, starts-rise}
 use Rattle.claim_months.proofs.Checked.{later-day}

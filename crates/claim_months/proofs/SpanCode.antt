@@ -15,7 +15,7 @@ use Rattle.claim_months.specs.Claim.{first_duration, claim_check}
 use Rattle.claim_months.specs.ClaimMonths.{month_first, month_last}
 use Rattle.claim_months.specs.Windows.{window_sound, window_check}
 use Rattle.claim_months.specs.Exposure.{exposed_from, exposed_to, month_u, closing_category, month_records}
-use Rattle.claim_months.specs.Private.{HoldsDay, Begins}
+use Rattle.claim_months.specs.design.Private.{HoldsDay, Begins}
 use Rattle.claim_months.specs.Span.{span_of, exposure_check}
 use Rattle.claim_months.proofs.Sound.{Sound}
 use Rattle.claim_months.proofs.Months.{last-next, months-end}

@@ -21,7 +21,7 @@ use Rattle.claim_months.specs.ClaimMonths.{month_first, month_last}
 use Rattle.claim_months.specs.Exposure.{closed_in, exposed_from, exposed_to, month_b, closing_u, month_u, closing_category, MonthRecord, thirtieths, month_record, month_records, weighted, closings}
 use Rattle.claim_months.specs.Span.{last_record, span_of, span_u, span_b, span_thirtieths, span_weighted, span_closing, SpanBounds}
 use Rattle.basics.specs.Series.{sum_to}
-use Rattle.claim_months.specs.Private.{span_category}
+use Rattle.claim_months.specs.design.Private.{span_category}
 use Rattle.claim_months.proofs.Sound.{Sound}
 use Rattle.claim_months.proofs.Months.{first-starts, last-next, starts-rise, months-end}
 use Rattle.claim_months.proofs.MonthRuns.{run, records-run, records-none, month-holds}

@@ -23,7 +23,7 @@ with_code x c =
     }
 
 -- A closed claim with code 6 has the checks, category, month records, span and listing of the same claim with code 1, recovery, in every window
--- and for every lent list. `proofs/ChangesOfDefinition.antt` proves it
+-- and for every lent list. `proofs/ChangeOfDefinition.antt` proves it
 pub record AsRecovery (c : Claim) : Type 0 where
   pub checks : claim_check c ≡ claim_check (with_code 1 c)
   pub categories : category c ≡ category (with_code 1 c)

@@ -73,7 +73,7 @@ pub record DurationsAddUp (c : Claim) (whole part : ListingCall) (parts : List L
       → ShowsNone c whole × EveryPart (ShowsNone c) part parts
 
 -- Request No. 12: it holds of every claim and every cut of a window, whatever stood in the lent lists, where each listing answers a number of
--- records; at each duration a listing has −1 to 30 thirtieths; and a listing with room for its records answers. `proofs/DurationTotals.antt` proves it
+-- records; at each duration a listing has −1 to 30 thirtieths; and a listing with room for its records answers. `proofs/Durations.antt` proves it
 pub record EachDuration : Type 0 where
   pub adds_up : (c : Claim) (whole part : ListingCall) (parts : List ListingCall) → Answered c whole
       → Parts (Answered c) call_window (call_window whole).first.0 (call_window whole).last.0 part parts

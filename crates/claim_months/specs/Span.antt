@@ -1,5 +1,5 @@
 -- What the span of a claim's month records is, and what the calls of this layer answer.
-use Rattle.std.specs.Prelude.{ℕ, ◌+◌, ◌-◌, ◌≤◌, ◌<◌, ◌≡◌, List, [], ◌∷◌, length, eqb, ℤ, pos, ◌-ℤ◌, ◌*ℤ◌, Err, Ok, Result}
+use Rattle.std.specs.Prelude.{ℕ, ◌+◌, ◌-◌, ◌≤◌, ◌<◌, List, [], ◌∷◌, length, eqb, ℤ, pos, ◌-ℤ◌, ◌*ℤ◌, Err, Ok, Result}
 use Rattle.std.proofs.Math.IntN.{sub_ℕ}
 use Rattle.basics.specs.Pick.{pick}
 use Rattle.basics.specs.Checks.{◌then◌}
@@ -62,10 +62,6 @@ pub record SpanBounds (sp : Span) : Type 0 where
   pub through_high : sp.through.0 ≤ 30
   pub category_high : sp.category ≤ 5
   pub closing_months : 0 < sp.category → 0 < sp.months
-
--- the sum over all months of a span is that of one band, for every weight; `proofs/Bands.antt` proves it
-abbrev pub SpanIsBand : Type 0
-SpanIsBand = (w : ℕ → ℤ) (sp : Span) → SpanBounds sp → 0 < sp.months → span_weighted w sp sp.months ≡ span_band w sp 0 sp.months
 
 -- the number of the first of the checks 1 to 5 that fails, or 0
 unfoldable pub exposure_check : Claim → ℕ → ℕ → ℕ

@@ -15,7 +15,7 @@ walk_from c b e k (suc n) =
     (pick (meets c b e k) (month_record c b e k ∷ walk_from c b e (suc k) n) (walk_from c b e (suc k) n))
 
 -- it gives the month records, of every claim that passes its checks and every window; no later claim month meets the exposure; and claim month 1,801
--- starts after the calendar, and so after every exposed day of a window in it: 1,800 steps never cut a walk short. `proofs/Walks.antt` proves it
+-- starts after the calendar, and so after every exposed day of a window in it: 1,800 steps never cut a walk short. `proofs/Walk.antt` proves it
 pub record MonthWalk (c : Claim) (b e : ℕ) : Type 0 where
   pub gives : walk_from c b e 1 1800 ≡ month_records c b e
   pub none_later : (k j : ℕ) → 1 ≤ k → k ≤ j → exposed_to c e < month_first c k → meets c b e j ≡ false

@@ -5,7 +5,7 @@ ghost use Rattle.basics.specs.Refused.{number_refused, numbered};
 ghost use Rattle.calendar.specs.Calendar.{is_date, day_number};
 ghost use Rattle.calendar.specs.DayAnswers.{known};
 ghost use Rattle.claim_months.specs.Claim.{is_missing, dates_sound, status_sound, claim_check};
-ghost use Rattle.claim_months.specs.Private.{days_of, none_before, checked_of};
+ghost use Rattle.claim_months.specs.design.Private.{days_of, none_before, checked_of};
 
 use crate::dated::DatedClaim;
 use crate::sound_claim::sound_claim;

@@ -1,7 +1,7 @@
 // A claim with its days.
 ghost use Rattle.std.specs.Prelude.{◌≡◌, true};
 ghost use Rattle.claim_months.specs.Claim.{dates_sound};
-ghost use Rattle.claim_months.specs.Private.{days_of};
+ghost use Rattle.claim_months.specs.design.Private.{days_of};
 
 use crate::{Claim, ClaimDays};
 

@@ -3,7 +3,7 @@ ghost use Rattle.std.specs.Prelude.{◌≡◌, [], ◌+◌, ◌≤◌, Some};
 ghost use Rattle.basics.specs.Refused.{numbered};
 ghost use Rattle.claim_months.specs.Exposure.{month_b};
 ghost use Rattle.claim_months.specs.Span.{span_of, span_in};
-ghost use Rattle.claim_months.specs.Private.{closing_within, later_of, from_of, to_of, closing_of, u_at, category_at, Placed, OfClaim, SoundWindow, BeginsFor, no_begin, MonthsFor};
+ghost use Rattle.claim_months.specs.design.Private.{closing_within, later_of, from_of, to_of, closing_of, u_at, category_at, Placed, OfClaim, SoundWindow, BeginsFor, no_begin, MonthsFor};
 
 use crate::check::checked;
 use crate::month::claim_month;
@@ -18,7 +18,7 @@ use calendar::Day;
 
 // Kept: `claim` and `window` stay two parameters: three functions ask one of the window's days alone, and a struct would be made for one call.
 // The claim's closing, if it stands in the window.
-#[tactic(auto, unfolding(crate::specs::Private::closing_within))]
+#[tactic(auto, unfolding(crate::specs::design::Private::closing_within))]
 fn closing_in(claim: CheckedClaim, window: MonthWindow) -> Option<ClaimClosing>
     ensures { result ≡ closing_within claim.closing window.first.day.0 window.last.day.0 }
 {
@@ -31,7 +31,7 @@ fn closing_in(claim: CheckedClaim, window: MonthWindow) -> Option<ClaimClosing>
 
 // The later of two days.
 // Kept: `max` by a derived order would compare their months too.
-#[tactic(auto, unfolding(crate::specs::Private::later_of))]
+#[tactic(auto, unfolding(crate::specs::design::Private::later_of))]
 pub(crate) fn later(one: MonthDay, other: MonthDay) -> MonthDay
     ensures { result ≡ later_of one other }
 {
@@ -49,7 +49,7 @@ pub(crate) fn exposed_from(claim: CheckedClaim, first: MonthDay) -> MonthDay
 }
 
 // l, the last exposed day.
-#[tactic(auto, unfolding(crate::specs::Private::to_at))]
+#[tactic(auto, unfolding(crate::specs::design::Private::to_at))]
 pub(crate) fn exposed_to(claim: CheckedClaim, last: MonthDay) -> MonthDay
     ensures { result ≡ to_of claim last }
 {
@@ -96,7 +96,7 @@ fn begin_month(claim: CheckedClaim, first: MonthDay) -> BeginMonth
 }
 
 // U of the closing month.
-#[tactic(auto, unfolding(crate::specs::Private::closing_of))]
+#[tactic(auto, unfolding(crate::specs::design::Private::closing_of))]
 fn closing_u(closing: ClaimClosing, month: ClaimMonth) -> Thirtieths
     requires first_le_day { month.first.0 ≤ closing.termination.day.0 }
     requires day_le_last { closing.termination.day.0 ≤ month.last.0 }
@@ -114,7 +114,7 @@ fn closing_u(closing: ClaimClosing, month: ClaimMonth) -> Thirtieths
 }
 
 // U of the month that holds l, the termination of a claim closed in the window.
-#[tactic(auto, unfolding(crate::specs::Private::u_at))]
+#[tactic(auto, unfolding(crate::specs::design::Private::u_at))]
 fn last_u(closed: Option<ClaimClosing>, to: Day, month: ClaimMonth) -> Thirtieths
     requires closed_to { (x : ClaimClosing) → Some x ≡ closed → x.termination.day.0 ≡ to.0 }
     requires first_bound { month.first.0 ≤ to.0 }
@@ -128,7 +128,7 @@ fn last_u(closed: Option<ClaimClosing>, to: Day, month: ClaimMonth) -> Thirtieth
 }
 
 // Its category.
-#[tactic(auto, unfolding(crate::specs::Private::category_at))]
+#[tactic(auto, unfolding(crate::specs::design::Private::category_at))]
 fn last_category(closed: Option<ClaimClosing>) -> u8
     ensures { result ≡ category_at closed }
 {

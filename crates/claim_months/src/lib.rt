@@ -147,14 +147,14 @@ struct ExposedMonths {
     begin: BeginMonth,
 }
 
-// A month record of a listing, with thirtieths `upper` − `lower`.
+// A month record of a listing, with thirtieths `through` − `before`.
 #[derive(Clone, Copy)]
 struct Row {
     duration: Duration,
     first: MonthDay,
     last: Day,
-    upper: Thirtieths,
-    lower: Thirtieths,
+    through: Thirtieths,
+    before: Thirtieths,
     // Kept: a number, as in `Span`: the sixth of a row of the C interface's listing.
     category: u8,
 }

@@ -4,7 +4,7 @@ ghost use Rattle.std.proofs.Math.IntN.{sub_ℕ};
 ghost use Rattle.std.proofs.lemmas.List.Edits.{sets};
 ghost use Rattle.basics.specs.Refused.{numbered};
 ghost use Rattle.claim_months.specs.Listing.{row, listing_of, list_after};
-ghost use Rattle.claim_months.specs.Private.{RowBounds, record_of, span_category, span_record, later_of, Placed, OfClaim, SoundWindow, MonthsFor, RowsFor, ListedFor};
+ghost use Rattle.claim_months.specs.design.Private.{RowBounds, record_of, span_category, span_record, later_of, Placed, OfClaim, SoundWindow, MonthsFor, RowsFor, ListedFor};
 
 use crate::check::checked;
 use crate::exposure::{exposed_from, exposed_months, exposed_to, later};
@@ -26,16 +26,16 @@ fn signed(number: u32) -> i32
 }
 
 // U − B, which may be below 0.
-fn difference(upper: Thirtieths, lower: Thirtieths) -> i32
-    requires upper_bound { upper.0 ≤ 30 }
-    requires lower_bound { lower.0 ≤ 30 }
-    ensures { result ≡ sub_ℕ upper.0 lower.0 }
+fn difference(through: Thirtieths, before: Thirtieths) -> i32
+    requires upper_bound { through.0 ≤ 30 }
+    requires lower_bound { before.0 ≤ 30 }
+    ensures { result ≡ sub_ℕ through.0 before.0 }
 {
-    signed(upper.0) - signed(lower.0)
+    signed(through.0) - signed(before.0)
 }
 
 // The category of a span's month.
-#[tactic(auto, unfolding(crate::specs::Private::span_category))]
+#[tactic(auto, unfolding(crate::specs::design::Private::span_category))]
 fn month_category(span: Span, place: u32) -> u8
     requires { place < span.months }
     ensures { result ≡ span_category span place }
@@ -47,7 +47,7 @@ fn month_category(span: Span, place: u32) -> u8
 }
 
 // The record of a span's month from `start` to the day before `next`, where the days `from` to `to` are exposed.
-#[tactic(auto, unfolding(crate::specs::Private::span_record))]
+#[tactic(auto, unfolding(crate::specs::design::Private::span_record))]
 fn month_row(span: Span, place: u32, start: MonthDay, next: Day, from: MonthDay, to: Day) -> Row
     requires first_bound { span.first.0 ≤ 3626 }
     requires place_lt_months { place < span.months }
@@ -60,8 +60,8 @@ fn month_row(span: Span, place: u32, start: MonthDay, next: Day, from: MonthDay,
         duration: Duration(span.first.0 + place),
         first: later(start, from),
         last: Day((next.0 - 1).min(to.0)),
-        upper: span.upper(place),
-        lower: span.lower(place),
+        through: span.through_at(place),
+        before: span.before_at(place),
         category: month_category(span, place),
     }
 }
@@ -77,7 +77,7 @@ fn put_row(list: &mut [i32], at: usize, month: Row)
         signed(month.duration.0),
         signed(month.first.day.0),
         signed(month.last.0),
-        difference(month.upper, month.lower),
+        difference(month.through, month.before),
         signed(month.first.month),
         i32::from(month.category),
     ];

@@ -1,7 +1,7 @@
 // The claim months of a claim.
 ghost use Rattle.std.specs.Prelude.{◌≡◌, ◌≤◌};
 ghost use Rattle.calendar.specs.Calendar.{first_month, end_month};
-ghost use Rattle.claim_months.specs.Private.{start_of, OfClaim, Placed, HoldsFor};
+ghost use Rattle.claim_months.specs.design.Private.{start_of, OfClaim, Placed, HoldsFor};
 
 use crate::{CheckedClaim, ClaimMonth, MonthDay, Starts};
 use calendar::Day;

@@ -3,7 +3,7 @@ ghost use Rattle.std.specs.Prelude.{◌≡◌, true, ◌+◌, ◌-◌, ◌/◌, 
 ghost use Rattle.basics.specs.Pick.{pick};
 ghost use Rattle.calendar.specs.Calendar.{is_date, month_index, last_day_number};
 ghost use Rattle.claim_months.specs.Claim.{termination_day, is_closed, category, claim_check};
-ghost use Rattle.claim_months.specs.Private.{maximum_of, near_by, month_day, starts_of, closing_at, checked_of};
+ghost use Rattle.claim_months.specs.design.Private.{maximum_of, near_by, month_day, starts_of, closing_at, checked_of};
 
 use crate::check::elimination;
 use crate::dated::DatedClaim;

@@ -7,7 +7,7 @@ use crate::{Span, Thirtieths};
 impl Span {
     // U of a month.
     #[tactic(auto, unfolding(crate::specs::Span::span_u))]
-    pub fn upper(self, place: u32) -> Thirtieths
+    pub fn through_at(self, place: u32) -> Thirtieths
         ensures { result.0 ≡ span_u self place }
     {
         if self.months > 0 && place == self.months - 1 {
@@ -18,7 +18,7 @@ impl Span {
 
     // B of a month.
     #[tactic(auto, unfolding(crate::specs::Span::span_b))]
-    pub fn lower(self, place: u32) -> Thirtieths
+    pub fn before_at(self, place: u32) -> Thirtieths
         ensures { result.0 ≡ span_b self place }
     {
         if place == 0 {
@@ -31,6 +31,6 @@ impl Span {
     pub fn thirtieths(self, place: u32) -> i64
         ensures { result ≡ span_thirtieths self place }
     {
-        i64::from(self.upper(place).0) - i64::from(self.lower(place).0)
+        i64::from(self.through_at(place).0) - i64::from(self.before_at(place).0)
     }
 }

@@ -4,7 +4,7 @@ ghost use Rattle.basics.specs.Pick.{pick};
 ghost use Rattle.basics.specs.Refused.{numbered};
 ghost use Rattle.calendar.specs.Calendar.{last_day_number};
 ghost use Rattle.claim_months.specs.Windows.{window_sound, window_in};
-ghost use Rattle.claim_months.specs.Private.{with_month, with_months};
+ghost use Rattle.claim_months.specs.design.Private.{with_month, with_months};
 
 use crate::{MonthDay, MonthWindow, Window};
 use basics::refusal::Refusal;

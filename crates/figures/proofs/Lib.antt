@@ -1,2 +1,2 @@
--- `Joint`: the joint theorem.
-pub mod Joint
+-- `DocumentFigures`: the joint theorem.
+pub mod DocumentFigures

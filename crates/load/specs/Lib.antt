@@ -1,3 +1,4 @@
--- What a load means: document 02, request No. 13. `Private` has what only private functions' contracts need.
+-- What a load means: document 02, request No. 13.
 pub mod Load
-pub mod Private
+pub mod Rebuildable
+pub mod design

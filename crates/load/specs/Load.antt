@@ -1,19 +1,13 @@
 -- Document 02, request No. 13: a load that anyone can rebuild. From a seed, a size and a claim number due comes a claim, and the x reached.
-use Rattle.std.specs.Prelude.{ℕ, zero, suc, ◌+◌, ◌*◌, ◌/◌, ◌%◌, ◌<◌, ◌≤◌, ◌≡◌, Bool, true, ◌&&◌, List, [], ◌∷◌, ◌++◌, length, get_or, take, drop, leb, eqb, Err, Ok, Result}
+use Rattle.std.specs.Prelude.{ℕ, zero, suc, ◌+◌, ◌*◌, ◌/◌, ◌%◌, Bool, ◌&&◌, List, [], ◌∷◌, ◌++◌, take, drop, leb, eqb, Err, Ok, Result}
 use Rattle.basics.specs.Limits.{most_claims}
 use Rattle.basics.specs.Pick.{pick}
-use Rattle.basics.specs.Checks.{◌then◌, refuse_load}
+use Rattle.basics.specs.Checks.{refuse_load}
 use Rattle.calendar.specs.Calendar.{date_of}
 use Rattle.claim_months.specs.declared.Claim.{Claim}
-use Rattle.claim_months.specs.Claim.{claim_check}
-use Rattle.claim_months.specs.Windows.{window_check}
-use Rattle.rates.specs.Rates.{rate_check}
-use Rattle.study.specs.Study.{study_of}
 use Rattle.claim_file.specs.declared.WindowDates.{WindowDates}
 use Rattle.claim_file.specs.Block.{window_bytes, bytes_of_block}
-use Rattle.claim_file.specs.BlockAnswers.{no_date, no_claim}
-use Rattle.claim_file.specs.Run.{file_run}
-use Rattle.claim_file.specs.Files.{file_claims, Accepts, window_days}
+use Rattle.claim_file.specs.BlockAnswers.{no_date}
 use Rattle.load.specs.declared.LoadedClaim.{LoadedClaim}
 
 -- a seed: 1 to 2,147,483,646
@@ -98,20 +92,3 @@ load_blocks x size = blocks_from ((size + 14) / 15) 1 (load x size)
 -- the claim file of a window and a load
 unfoldable pub load_file : WindowDates → ℕ → ℕ → List ℕ
 load_file w x size = window_bytes w.first w.last ++ load_blocks x size
-
--- What is so of every seed and size. `proofs/Loads.antt` proves it
-pub record Rebuildable : Type 0 where
-  -- an answer's x is again a seed, so no load breaks off: every step of it is answered with its claim
-  pub seeds : (x : ℕ) → seed_sound x ≡ true → seed_sound (drawn 5 x) ≡ true
-  pub steps : (x size i : ℕ) → seed_sound x ≡ true → size ≤ most_claims → i < size
-      → load_step (seed_at x i) size (suc i) ≡ Ok (record { claim = get_or (load x size) i no_claim; x = seed_at x (suc i) })
-  -- every generated claim passes the checks 1 to 5 and 16 in every sound window
-  pub passes : (x number b e : ℕ) → seed_sound x ≡ true → window_check b e ≡ 0 → (window_check b e then claim_check (load_claim x number)) ≡ 0
-  -- a load has exactly so many claims, with the numbers 1 to its size
-  pub size_so : (x size : ℕ) → length (load x size) ≡ size
-  pub numbers : (x size i : ℕ) → i < size → (get_or (load x size) i no_claim).number ≡ suc i
-  -- its blocks, written and read back, give the load
-  pub read_back : (x size : ℕ) → seed_sound x ≡ true → size ≤ most_claims → file_claims (load_blocks x size) ≡ load x size
-  -- and a file of them with a sound window and a sound table runs unrefused, with all claims taken
-  pub runs : (rates : List ℕ) (w : WindowDates) (x size : ℕ) → Accepts w → rate_check rates 0 ≡ 0 → seed_sound x ≡ true → size ≤ most_claims
-      → ((file_run rates (load_file w x size)).refused ≡ 0) × ((file_run rates (load_file w x size)).study ≡ study_of (window_days w) rates (load x size))

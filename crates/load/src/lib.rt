@@ -5,7 +5,7 @@ ghost use Rattle.std.specs.Prelude.{◌≡◌, ◌+◌, ◌≤◌};
 ghost use Rattle.basics.specs.Refused.{numbered};
 ghost use Rattle.calendar.specs.Calendar.{date_of, last_day_number};
 ghost use Rattle.load.specs.Load.{draw, drawn, load_claim, step_sound, load_step};
-ghost use Rattle.load.specs.Private.{ending_of};
+ghost use Rattle.load.specs.design.Private.{ending_of};
 
 use basics::limits::MOST_CLAIMS;
 use basics::refusal::Refusal;

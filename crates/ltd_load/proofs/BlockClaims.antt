@@ -14,7 +14,7 @@ use Rattle.claim_file.specs.BlockAnswers.{no_claim}
 use Rattle.load.specs.declared.LoadedClaim.{LoadedClaim}
 use Rattle.load.specs.Load.{drawn, load_claim, load_from, seed_at}
 use Rattle.load.proofs.Seeds.{seed-at, claim-from, load-length}
-use Rattle.ltd_load.specs.Private.{Due, count_from, BlockFrom}
+use Rattle.ltd_load.specs.design.Private.{Due, count_from, BlockFrom}
 
 pub record Filled (x number : ℕ) (claims : List Claim) (reached k : ℕ) : Type 0 where
   pub reached-so : reached ≡ seed_at x k

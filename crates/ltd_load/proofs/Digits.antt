@@ -10,7 +10,7 @@ use lib.ListN.{length, get_or, drop, drop_of_length-le}
 use lib.Seq.{drop-cons}
 use borrow.Author.Tests.{le-leb, lt-leb}
 use Rattle.basics.specs.Pick.{pick}
-use Rattle.ltd_load.specs.Words.{is_digit, all_digits, value_from, is_number, number_in}
+use Rattle.ltd_load.specs.Words.{is_digit, all_digits, value_from, is_decimal, number_of_word}
 use Rattle.std.specs.Prelude.{None, Some}
 
 grows : (bs : List ℕ) (n : ℕ) → n ≤ value_from n bs
@@ -18,12 +18,12 @@ unfolding value_from
 grows [] n = omega arith
 grows (b ∷ bs) n = omega (arith, grows bs (10 * n + (b - 48)))
 
-no_number : (word : List ℕ) → is_number word ≡ false → None ≡ number_in word
-unfolding number_in
+no_number : (word : List ℕ) → is_decimal word ≡ false → None ≡ number_of_word word
+unfolding number_of_word
 no_number word e = rw e
 
-pub empty-word : (word : List ℕ) → length word ≡ 0 → None ≡ number_in word
-unfolding is_number
+pub empty-word : (word : List ℕ) → length word ≡ 0 → None ≡ number_of_word word
+unfolding is_decimal
 empty-word word e = no_number word (simp (lt-leb 1 (length word) (omega arith)))
 
 -- a loop over the word has come to byte i, with the number so far
@@ -48,14 +48,14 @@ module _ (word : List ℕ) (number i : ℕ) (r : Read word number i) (l : i < le
   unfolding all_digits
   next-digits = sym (ap all_digits first_byte) ∙ r.digits-so
 
-  pub not_digit : is_digit (get_or word i 0) ≡ false → None ≡ number_in word
-  unfolding is_number
+  pub not_digit : is_digit (get_or word i 0) ≡ false → None ≡ number_of_word word
+  unfolding is_decimal
   not_digit e =
       let d : all_digits word ≡ false = sym next-digits ∙ ap (λ (t : Bool). t && all_digits (drop (suc i) word)) e in
       no_number word (simp (d, and-false))
 
-  pub too_large : 4294967295 < 10 * number + (get_or word i 0 - 48) → None ≡ number_in word
-  unfolding is_number
+  pub too_large : 4294967295 < 10 * number + (get_or word i 0 - 48) → None ≡ number_of_word word
+  unfolding is_decimal
   too_large h =
       let v = next-value in
       let g = grows (drop (suc i) word) (10 * number + (get_or word i 0 - 48)) in
@@ -70,11 +70,11 @@ module _ (word : List ℕ) (number i : ℕ) (r : Read word number i) (l : i < le
         digits-so = ap (λ (k : ℕ). all_digits (drop k word)) (add-one i) ∙ sym (ap (λ (t : Bool). t && all_digits (drop (suc i) word)) d) ∙ next-digits;
       }
 
-pub all_read : (word : List ℕ) (number i : ℕ) → Read word number i → length word ≤ i → (length word ≡ 0 → ⊥) → Some number ≡ number_in word
-unfolding is_number number_in value_from all_digits
+pub all_read : (word : List ℕ) (number i : ℕ) → Read word number i → length word ≤ i → (length word ≡ 0 → ⊥) → Some number ≡ number_of_word word
+unfolding is_decimal number_of_word value_from all_digits
 all_read word number i r h k =
     let e : drop i word ≡ [] = drop_of_length-le word {i = i} h in
     let v : number ≡ value_from 0 word = sym (ap (value_from number) e) ∙ r.value-so in
     let d : all_digits word ≡ true = sym r.digits-so ∙ ap all_digits e in
-    let t : is_number word ≡ true = simp (le-leb 1 (length word) (omega arith), d, le-leb (value_from 0 word) 4294967295 (omega (arith, r.small))) in
+    let t : is_decimal word ≡ true = simp (le-leb 1 (length word) (omega arith), d, le-leb (value_from 0 word) 4294967295 (omega (arith, r.small))) in
     ap Some v ∙ sym (ap (λ (t : Bool). pick t (Some (value_from 0 word)) None) t)

@@ -16,7 +16,7 @@ use Rattle.load.proofs.Seeds.{seed-at}
 use Rattle.load.proofs.FileBlocks.{window-block, block-after}
 use Rattle.ltd_load.specs.declared.Asked.{Asked}
 use Rattle.ltd_load.specs.Asked.{LoadAsked, file_asked, block_asked}
-use Rattle.ltd_load.specs.Private.{Due, count_from}
+use Rattle.ltd_load.specs.design.Private.{Due, count_from}
 
 seed-sum : (s a b : ℕ) → seed_at (seed_at s a) b ≡ seed_at s (a + b)
 unfolding seed_at

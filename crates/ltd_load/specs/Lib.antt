@@ -1,4 +1,4 @@
--- `Words`: what a word says. `Asked`: what the words ask for, and the file's blocks. `Private`: what the code that makes a block rests on.
+-- `Words`: what a word says. `Asked`: what the words ask for, and the file's blocks.
 pub mod Words
 pub mod Asked
-pub mod Private
+pub mod design

@@ -17,11 +17,11 @@ value_from n [] = n
 value_from n (b ∷ bs) = value_from (10 * n + (b - 48)) bs
 
 -- a word's number: digits and nothing else, and at least one of them; up to 2^32 − 1
-unfoldable pub is_number : List ℕ → Bool
-is_number word = leb 1 (length word) && all_digits word && leb (value_from 0 word) 4294967295
+unfoldable pub is_decimal : List ℕ → Bool
+is_decimal word = leb 1 (length word) && all_digits word && leb (value_from 0 word) 4294967295
 
-unfoldable pub number_in : List ℕ → Option ℕ
-number_in word = pick (is_number word) (Some (value_from 0 word)) None
+unfoldable pub number_of_word : List ℕ → Option ℕ
+number_of_word word = pick (is_decimal word) (Some (value_from 0 word)) None
 
 -- the date of a year, a month and a day
 unfoldable pub date_of_parts : ℕ → ℕ → ℕ → Option Date
@@ -37,5 +37,5 @@ date_of None m d = None
 unfoldable pub is_dated : List ℕ → Bool
 is_dated word = eqb (length word) 10 && eqb (get_or word 4 0) 45 && eqb (get_or word 7 0) 45
 
-unfoldable pub date_in : List ℕ → Option Date
-date_in word = pick (is_dated word) (date_of (number_in (take 4 word)) (number_in (take 2 (drop 5 word))) (number_in (take 2 (drop 8 word)))) None
+unfoldable pub date_of_word : List ℕ → Option Date
+date_of_word word = pick (is_dated word) (date_of (number_of_word (take 4 word)) (number_of_word (take 2 (drop 5 word))) (number_of_word (take 2 (drop 8 word)))) None

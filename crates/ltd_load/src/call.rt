@@ -3,7 +3,7 @@ ghost use Rattle.std.specs.Prelude.{◌≤◌, length};
 ghost use Rattle.ltd_load.specs.Asked.{SeedAsked, SizeAsked, LastAsked, SoundAsked};
 
 use crate::Asked;
-use crate::words::{date_in, number_in};
+use crate::words::{date_of_word, number_of_word};
 use basics::limits::MOST_CLAIMS;
 use calendar::Date;
 use std::env::{Env, FillError};
@@ -92,7 +92,7 @@ impl<A: Env, E: Print> Call<'_, A, E> {
     fn seed(self) -> Option<u32>
         ensures { SeedAsked result }
     {
-        match self.read_at(1, number_in) {
+        match self.read_at(1, number_of_word) {
             Some(seed @ 1..=2147483646) => Some(seed),
             _ => {
                 self.say_wrong(1, b"SEED", b"a number from 1 to 2147483646");
@@ -104,7 +104,7 @@ impl<A: Env, E: Print> Call<'_, A, E> {
     fn size(self) -> Option<u32>
         ensures { SizeAsked result }
     {
-        match self.read_at(2, number_in) {
+        match self.read_at(2, number_of_word) {
             Some(size) if size <= MOST_CLAIMS => Some(size),
             _ => {
                 self.say_wrong(2, b"SIZE", b"a number from 0 to 500000");
@@ -114,7 +114,7 @@ impl<A: Env, E: Print> Call<'_, A, E> {
     }
 
     fn first(self) -> Option<Date> {
-        let first = self.read_at(3, date_in);
+        let first = self.read_at(3, date_of_word);
         if first.is_none() {
             self.say_wrong(
                 3,
@@ -129,7 +129,7 @@ impl<A: Env, E: Print> Call<'_, A, E> {
     fn last(self, first: Date) -> Option<Date>
         ensures { LastAsked first result }
     {
-        match self.read_at(4, date_in) {
+        match self.read_at(4, date_of_word) {
             Some(date) if claim_months::windows::window(first, date).is_ok() => Some(date),
             _ => {
                 self.say_wrong(

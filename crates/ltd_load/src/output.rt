@@ -3,7 +3,7 @@ ghost use Rattle.std.specs.Prelude.{◌≡◌, ◌≤◌};
 ghost use Rattle.claim_file.specs.Block.{bytes_of_block};
 ghost use Rattle.load.specs.Load.{drawn, load_claim, load_from, seed_at};
 ghost use Rattle.ltd_load.specs.Asked.{LoadAsked, block_asked};
-ghost use Rattle.ltd_load.specs.Private.{Due, count_from, BlockFrom};
+ghost use Rattle.ltd_load.specs.design.Private.{Due, count_from, BlockFrom};
 
 use crate::{Asked, LoadedBlock};
 use claim_file::Block;

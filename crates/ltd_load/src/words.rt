@@ -1,12 +1,12 @@
 // What a word says: a number in decimal digits, or a date as 2010-01-01.
 ghost use Rattle.std.specs.Prelude.{◌≡◌};
-ghost use Rattle.ltd_load.specs.Words.{number_in, date_of_parts, date_in};
+ghost use Rattle.ltd_load.specs.Words.{number_of_word, date_of_parts, date_of_word};
 
 use calendar::Date;
 
 // A word's number: digits and nothing else, up to 2^32 - 1. Kept: `parse` takes a plus sign too.
-pub fn number_in(word: &[u8]) -> Option<u32>
-    ensures { result ≡ number_in word.now }
+pub fn number_of_word(word: &[u8]) -> Option<u32>
+    ensures { result ≡ number_of_word word.now }
 {
     if word.is_empty() {
         return None;
@@ -35,14 +35,14 @@ fn date_of_parts(year: u32, month: u32, day: u32) -> Option<Date>
 }
 
 // A word's date.
-pub fn date_in(word: &[u8]) -> Option<Date>
-    ensures { result ≡ date_in word.now }
+pub fn date_of_word(word: &[u8]) -> Option<Date>
+    ensures { result ≡ date_of_word word.now }
 {
     if word.len() != 10 || word[4] != b'-' || word[7] != b'-' {
         return None;
     }
-    let year = number_in(&word[0..4])?;
-    let month = number_in(&word[5..7])?;
-    let day = number_in(&word[8..10])?;
+    let year = number_of_word(&word[0..4])?;
+    let month = number_of_word(&word[5..7])?;
+    let day = number_of_word(&word[8..10])?;
     date_of_parts(year, month, day)
 }

@@ -8,7 +8,7 @@ use Rattle.basics.specs.Pick.{pick}
 use Rattle.basics.proofs.Tests.{by}
 use Rattle.ltd_study.specs.declared.input.Filled.{Filled}
 use Rattle.ltd_study.specs.Input.{fed_count}
-use Rattle.ltd_study.specs.Private.{Filling}
+use Rattle.ltd_study.specs.design.Private.{Filling}
 
 -- no Boolean is both
 pub both : {A : Type 0} → true ≡ false → A

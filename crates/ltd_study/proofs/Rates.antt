@@ -13,13 +13,13 @@ use borrow.Author.Tests.{eq-eqb, ne_eqb, le-leb, lt-leb}
 use Rattle.basics.specs.Tables.{table}
 use Rattle.basics.proofs.Tables.{table-length, table_at, list-table}
 use Rattle.basics.proofs.Tests.{tests, by}
-use Rattle.rates.specs.Prepared.{prepare_after, prepared_of}
+use Rattle.rates.specs.design.Prepared.{prepare_after, prepared_of}
 use Rattle.claim_file.specs.Bytes.{byte_at, two_at, four_at}
 use Rattle.std.specs.Prelude.{Option, Some, None}
 use Rattle.ltd_study.specs.declared.input.Filled.{Filled}
 use Rattle.ltd_study.specs.Sources.{Stream, Hands, IsOver, Gives, left_of}
 use Rattle.ltd_study.specs.Input.{block_rates, rates_fit, file_rates, RatesRead}
-use Rattle.ltd_study.specs.Private.{Filling}
+use Rattle.ltd_study.specs.design.Private.{Filling}
 use Rattle.ltd_study.proofs.Answers.{full-whole}
 use Rattle.ltd_study.proofs.Sources.{hands-none, hands-on, given}
 

@@ -12,16 +12,16 @@ use Rattle.std.specs.Prelude.{Option, Some, None}
 use Rattle.basics.specs.Pick.{pick}
 use Rattle.basics.proofs.Tests.{by}
 use Rattle.rates.specs.declared.Kind.TheVariants.{Prepared}
-use Rattle.rates.specs.Prepared.{prepared_of}
+use Rattle.rates.specs.design.Prepared.{prepared_of}
 use Rattle.claim_file.specs.Runs.{FileRun}
 use Rattle.claim_file.specs.Run.{Adding, started, blocks_fed, part_fed, fed, ended, file_run_with}
-use Rattle.claim_file.specs.PreparedRuns.{adding_with}
-use Rattle.claim_file.proofs.Feeding.{fed-in-pieces}
+use Rattle.claim_file.specs.design.PreparedRuns.{adding_with}
+use Rattle.claim_file.proofs.FedInPieces.{fed-in-pieces}
 use Rattle.claim_file.proofs.SameRuns.{same_runs}
 use Rattle.ltd_study.specs.declared.input.Filled.{Filled}
 use Rattle.ltd_study.specs.Sources.{Stream, Hands, IsOver}
 use Rattle.ltd_study.specs.Input.{file_rates, fed_count, claims_of, RatesRead, InputRun, StudyRun, StudyText}
-use Rattle.ltd_study.specs.Private.{Filling}
+use Rattle.ltd_study.specs.design.Private.{Filling}
 use Rattle.ltd_study.proofs.Answers.{full-whole}
 use Rattle.ltd_study.proofs.Sources.{hands-none, hands-on, given}
 use Rattle.report.specs.Text.{run_text, line_answer, line_after}

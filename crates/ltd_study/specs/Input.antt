@@ -8,7 +8,7 @@ use Rattle.rates.specs.declared.Kind.TheVariants.{Prepared}
 use Rattle.claim_file.specs.Runs.{FileRun}
 use Rattle.claim_file.specs.Bytes.{four_at}
 use Rattle.claim_file.specs.Run.{file_run_with, file_run}
-use Rattle.claim_file.specs.PreparedRuns.{adding_with}
+use Rattle.claim_file.specs.design.PreparedRuns.{adding_with}
 use Rattle.report.specs.Text.{run_text}
 use Rattle.ltd_study.specs.declared.input.Filled.{Filled}
 use Rattle.ltd_study.specs.Sources.{Stream, Gives}

@@ -3,15 +3,15 @@ ghost use Rattle.std.specs.Prelude.{◌≡◌, true, false, ◌+◌, ◌*◌, �
 ghost use Rattle.std.specs.Io.KnownBytes.{Consumes, IsAtEnd};
 ghost use Rattle.std.proofs.lemmas.List.Edits.{sets};
 ghost use Rattle.rates.specs.declared.Kind.TheVariants.{Prepared};
-ghost use Rattle.rates.specs.Prepared.{prepared_of};
+ghost use Rattle.rates.specs.design.Prepared.{prepared_of};
 ghost use Rattle.study.specs.Sums.{none};
 ghost use Rattle.claim_file.specs.Bytes.{four_at};
 ghost use Rattle.claim_file.specs.Run.{fed};
-ghost use Rattle.claim_file.specs.PreparedRuns.{adding_with};
-ghost use Rattle.claim_file.specs.LentRuns.{run_with};
+ghost use Rattle.claim_file.specs.design.PreparedRuns.{adding_with};
+ghost use Rattle.claim_file.specs.design.LentRuns.{with_sums};
 ghost use Rattle.ltd_study.specs.Sources.{Stream, Hands, IsOver, Handed, left_of};
 ghost use Rattle.ltd_study.specs.Input.{block_rates, read_answer, fed_count, rates_fit, RatesRead, InputRun, StudyRun};
-ghost use Rattle.ltd_study.specs.Private.{Filling};
+ghost use Rattle.ltd_study.specs.design.Private.{Filling};
 
 use claim_file::LentRun;
 use claim_file::run::feed_lent;
@@ -183,7 +183,7 @@ fn feed_bytes(
     sums: &mut [i64; 80],
 ) -> LentRun
     requires { count ≤ 2048 }
-    ensures { run_with result sums.new ≡ fed (run_with run sums.old) (adding_with Prepared table.now) (take count buffer.now) }
+    ensures { with_sums result sums.new ≡ fed (with_sums run sums.old) (adding_with Prepared table.now) (take count buffer.now) }
 {
     feed_lent(Kind::Prepared, table, &buffer[..count], run, sums)
 }
@@ -196,7 +196,7 @@ fn run_input<S: Source>(
     buffer: &mut Buffer,
 ) -> LentRun
     requires { sums.old ≡ none }
-    ensures { InputRun (S.left input.old) table.now (run_with result sums.new) }
+    ensures { InputRun (S.left input.old) table.now (with_sums result sums.new) }
 {
     let mut run = LentRun::start();
     // Ends at an input that doesn't: each turn raises the number of the block due, which 32 bits hold.
@@ -229,7 +229,7 @@ pub(crate) fn run_under<F: Source + Drop, S: Source>(
     buffer: &mut Buffer,
 ) -> LentRun
     requires { sums.old ≡ none }
-    ensures { StudyRun (left_of F.left file) (S.left input.old) (run_with result sums.new) }
+    ensures { StudyRun (left_of F.left file) (S.left input.old) (with_sums result sums.new) }
 {
     let mut table = [0; 15329];
     let rates = rates_of(file, &mut table, buffer);

@@ -17,7 +17,7 @@ use Rattle.basics.specs.Series.{sum_to}
 use Rattle.basics.proofs.Checks.{check-passed, then-passed}
 use Rattle.basics.proofs.Tests.{tests, by, and_left, and_right}
 use Rattle.rates.specs.Rates.{place, recovery_rate, death_rate, table_sound, rates_sound_to, rates_sound, cells, rate_check, group_of, last_of, group_last}
-use Rattle.rates.specs.Prepared.{rates_over}
+use Rattle.rates.specs.design.Prepared.{rates_over}
 
 -- recovery and death rate of a cell together
 abbrev pub both_rates : List ℕ → ℕ → ℕ → ℕ

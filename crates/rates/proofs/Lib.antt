@@ -1,8 +1,8 @@
--- The laws that other crates cite are in `Laws`, `Parts` and `PreparedTables`. `PartSums`, `Running`, `Preparing`, `TableForms`: sums over durations, running sums,
+-- The laws that other crates cite are in `Laws`, `Parts` and `SameTable`. `PartSums`, `Running`, `Preparing`, `TableForms`: sums over durations, running sums,
 -- tables prepared in place and the form of a table, for this crate's proofs.
 pub mod Laws
 pub mod Parts
-pub mod PreparedTables
+pub mod SameTable
 mod PartSums
 mod Running
 mod Preparing

@@ -21,10 +21,10 @@ use Rattle.basics.proofs.Tests.{tests, by}
 use Rattle.rates.specs.declared.Kind.{Kind}
 use Rattle.rates.specs.declared.Kind.TheVariants.{Plain, Prepared}
 use Rattle.rates.specs.Rates.{place, recovery_rate, death_rate}
-use Rattle.rates.specs.Prepared.{prepared_rate, recovery_of, death_of, part_recovery, part_death, rates_over}
+use Rattle.rates.specs.design.Prepared.{prepared_rate, recovery_of, death_of, part_recovery, part_death, rates_over}
 use Rattle.rates.proofs.Laws.{over-more}
 use Rattle.rates.proofs.Running.{times-size}
-use Rattle.rates.proofs.PreparedTables.{recovery-size, death-size}
+use Rattle.rates.proofs.SameTable.{recovery-size, death-size}
 
 -- rates that depend on a duration's place alone: a sum may start at the duration of the first one's place, and past 480 it has 480's rate again with
 -- each duration

@@ -15,9 +15,9 @@ use Rattle.basics.proofs.Checks.{check-passed, then-passed}
 use Rattle.rates.specs.declared.Kind.{Kind}
 use Rattle.rates.specs.declared.Kind.TheVariants.{Plain, Prepared}
 use Rattle.rates.specs.Rates.{cells, place, recovery_rate, death_rate, rates_sound_to, rates_sound}
-use Rattle.rates.specs.Prepared.{numbers_of_cell, marked, prepared_check, sum_before, prepared_rate, table_check_of, recovery_of, death_of, part_recovery, part_death}
+use Rattle.rates.specs.design.Prepared.{numbers_of_cell, has_mark, prepared_check, sum_before, prepared_rate, table_check_of, recovery_of, death_of, part_recovery, part_death}
 use Rattle.rates.proofs.Laws.{place-below, all-passed}
-use Rattle.rates.proofs.Preparing.{sound-length, numbers-length, marked-sound}
+use Rattle.rates.proofs.Preparing.{sound-length, numbers-length, has_mark-sound}
 
 -- the part of a cell
 abbrev pub cell_part : List ℕ → ℕ → List ℕ
@@ -91,8 +91,8 @@ cell-within Plain table cell e =
     let q = all-passed table cell e in
     omega (arith, sound-length (length table) q.0, ltb-true cell (cells table) q.1)
 cell-within Prepared table cell e =
-    let p = then-passed (check (marked table 1) 6) _ e in
+    let p = then-passed (check (has_mark table 1) 6) _ e in
     let q = then-passed (check (ltb cell (cells (numbers_of_cell table))) 7) _ p.1 in
-    let m = check-passed (marked table 1) 6 (omega arith) p.0 in
+    let m = check-passed (has_mark table 1) 6 (omega arith) p.0 in
     let l = check-passed (ltb cell (cells (numbers_of_cell table))) 7 (omega arith) q.0 in
-    omega (arith, sound-length (length table - 1) (marked-sound table 1 m), numbers-length table, ltb-true cell (cells (numbers_of_cell table)) l)
+    omega (arith, sound-length (length table - 1) (has_mark-sound table 1 m), numbers-length table, ltb-true cell (cells (numbers_of_cell table)) l)

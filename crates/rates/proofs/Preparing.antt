@@ -14,7 +14,7 @@ use native.Mathlib.Numerals.{add-one}
 use Rattle.basics.proofs.Tests.{tests, by, and_left}
 use Rattle.rates.specs.Rates.{length_sound, place, recovery_rate, death_rate, rates_sound_to, rates_sound}
 use Rattle.rates.proofs.Laws.{sound-at}
-use Rattle.rates.specs.Prepared.{numbers_of_cell, mark, marked, running_from, prepared_cell, prepared_cells}
+use Rattle.rates.specs.design.Prepared.{numbers_of_cell, mark, has_mark, running_from, prepared_cell, prepared_cells}
 
 -- a length that check 6 lets through
 pub sound-length : (n : ℕ) → length_sound n ≡ true → (n % 958 ≡ 0) × (1 ≤ n / 958) × (n / 958 ≤ 1024)
@@ -25,15 +25,15 @@ pub numbers-length : (table : List ℕ) → length (numbers_of_cell table) ≡ l
 unfolding numbers_of_cell
 numbers-length table = length-take-le (length table - 1) table (omega arith)
 
-pub marked-is : (table : List ℕ) (m : ℕ) → marked table m ≡ (length_sound (length table - 1) && eqb (mark table) m)
-unfolding marked
-marked-is table m = rw (numbers-length table)
+pub has_mark-is : (table : List ℕ) (m : ℕ) → has_mark table m ≡ (length_sound (length table - 1) && eqb (mark table) m)
+unfolding has_mark
+has_mark-is table m = rw (numbers-length table)
 
-pub marked-sound : (table : List ℕ) (m : ℕ) → marked table m ≡ true → length_sound (length table - 1) ≡ true
-marked-sound table m h = and_left (length_sound (length table - 1)) (eqb (mark table) m) (sym (marked-is table m) ∙ h)
+pub has_mark-sound : (table : List ℕ) (m : ℕ) → has_mark table m ≡ true → length_sound (length table - 1) ≡ true
+has_mark-sound table m h = and_left (length_sound (length table - 1)) (eqb (mark table) m) (sym (has_mark-is table m) ∙ h)
 
 -- what a test of the mark k says of the mark m
-pub tested : (table : List ℕ) (m k : ℕ) (r b : Bool) → r ≡ marked table k → k ≡ m → r ≡ b → marked table m ≡ b
+pub tested : (table : List ℕ) (m k : ℕ) (r b : Bool) → r ≡ has_mark table k → k ≡ m → r ≡ b → has_mark table m ≡ b
 tested table m k r b p e q = sym (rw e at p) ∙ q
 
 place_is : (k : ℕ) → k < 479 → place (k + 2) ≡ k

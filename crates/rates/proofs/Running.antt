@@ -13,7 +13,7 @@ use Rattle.basics.specs.Series.{sum_to}
 use Rattle.basics.proofs.Integers.{sub_is, size-sub, size-product, plus-minus}
 use Rattle.rates.specs.Rates.{place}
 use Rattle.rates.proofs.Laws.{place-below, over-more}
-use Rattle.rates.specs.Prepared.{running_from, sum_before, prepared_rate, rates_over}
+use Rattle.rates.specs.design.Prepared.{running_from, sum_before, prepared_rate, rates_over}
 
 -- what stands at a place of running sums
 pub running-length : (s : ℕ) (xs : List ℕ) → length (running_from s xs) ≡ length xs

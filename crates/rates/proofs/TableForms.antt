@@ -14,9 +14,9 @@ use Rattle.basics.proofs.Tests.{by}
 use Rattle.rates.specs.declared.Kind.{Kind}
 use Rattle.rates.specs.declared.Kind.TheVariants.{Plain, Prepared}
 use Rattle.rates.specs.Rates.{cells, rate_check}
-use Rattle.rates.specs.Prepared.{prepared_check, table_check_of, cells_of}
-use Rattle.rates.specs.Private.{formed, part_sound_of}
-use Rattle.rates.proofs.Preparing.{sound-length, numbers-length, marked-sound}
+use Rattle.rates.specs.design.Prepared.{prepared_check, table_check_of, cells_of}
+use Rattle.rates.specs.design.Private.{formed, part_sound_of}
+use Rattle.rates.proofs.Preparing.{sound-length, numbers-length, has_mark-sound}
 use Rattle.rates.proofs.Parts.{cell_part, number-in, part_sound}
 
 -- a table of its form has as many cells as its length has times 958 numbers, since the mark is one number; another has none
@@ -24,14 +24,14 @@ pub formed-cells : (kind : Kind) (table : List ℕ) → formed kind table ≡ tr
 unfolding formed cells_of cells
 formed-cells Plain table h = rw h
 formed-cells Prepared table h =
-    let s = sound-length (length table - 1) (marked-sound table 1 h) in
+    let s = sound-length (length table - 1) (has_mark-sound table 1 h) in
     let e : (length table - 1) / 958 ≡ length table / 958 = omega (arith, s) in
     rw (h, numbers-length table) e
 
 pub formed-few : (kind : Kind) (table : List ℕ) → formed kind table ≡ true → length table / 958 ≤ 1024
 unfolding formed
 formed-few Plain table h = let s = sound-length (length table) h in omega (arith, s)
-formed-few Prepared table h = let s = sound-length (length table - 1) (marked-sound table 1 h) in omega (arith, s)
+formed-few Prepared table h = let s = sound-length (length table - 1) (has_mark-sound table 1 h) in omega (arith, s)
 
 pub unformed-cells : (kind : Kind) (table : List ℕ) → formed kind table ≡ false → cells_of kind table ≡ 0
 unfolding formed cells_of
@@ -42,7 +42,7 @@ some-cells : (kind : Kind) (table : List ℕ) → formed kind table ≡ true →
 unfolding formed
 some-cells Plain table h = let s = sound-length (length table) h in let e = formed-cells Plain table h in omega (arith, s, e)
 some-cells Prepared table h =
-    let s = sound-length (length table - 1) (marked-sound table 1 h) in let e = formed-cells Prepared table h in omega (arith, s, e)
+    let s = sound-length (length table - 1) (has_mark-sound table 1 h) in let e = formed-cells Prepared table h in omega (arith, s, e)
 
 pub some-formed : (kind : Kind) (table : List ℕ) → 0 < cells_of kind table → formed kind table ≡ true
 some-formed kind table l =

@@ -5,7 +5,7 @@ ghost use Rattle.std.specs.Prelude.{◌≡◌, ◌+◌, ◌-◌, ◌*◌, ◌≤
 ghost use Rattle.basics.specs.Limits.{cell_numbers};
 ghost use Rattle.basics.specs.Refused.{number_refused};
 ghost use Rattle.rates.specs.Rates.{place, length_sound, rate_check, rates_sound, recovery_rate, death_rate, group_of, last_of, group_last};
-ghost use Rattle.rates.specs.Private.{one_above};
+ghost use Rattle.rates.specs.design.Private.{one_above};
 
 pub mod prepared;
 
@@ -98,7 +98,7 @@ pub(crate) fn is_table(numbers: usize) -> bool
 }
 
 // The first of the checks 6 to 8 that fails for a table and a cell.
-#[tactic(auto, unfolding(crate::specs::Prepared::table_check_of))]
+#[tactic(auto, unfolding(crate::specs::design::Prepared::table_check_of))]
 pub fn check(rates: &[u32], cell: Cell) -> Result<(), Refusal>
     ensures { number_refused result ≡ rate_check rates.now cell.0 }
 {
@@ -106,7 +106,7 @@ pub fn check(rates: &[u32], cell: Cell) -> Result<(), Refusal>
 }
 
 // 1 where a duration is above another, else 0.
-#[tactic(auto, using(std::proofs::lemmas::Bool::Decides::nat_tests), unfolding(crate::specs::Private::one_above))]
+#[tactic(auto, using(std::proofs::lemmas::Bool::Decides::nat_tests), unfolding(crate::specs::design::Private::one_above))]
 fn above(duration: Duration, bound: Duration) -> u8
     ensures value { result ≡ one_above bound.0 duration.0 }
     ensures upper_bound { result ≤ 1 }

@@ -3,8 +3,8 @@ ghost use Rattle.std.specs.Prelude.{◌≡◌, ℕ, ◌+◌, ◌-◌, ◌*◌, �
 ghost use Rattle.basics.specs.Limits.{cell_numbers};
 ghost use Rattle.basics.specs.Refused.{number_refused};
 ghost use Rattle.rates.specs.Rates.{recovery_rate, death_rate};
-ghost use Rattle.rates.specs.Private.{formed, part_sound_of};
-ghost use Rattle.rates.specs.Prepared.{running_from, prepared_cell, marked, prepare_check, prepare_after, cells_of, sum_before, table_check_of, recovery_of, death_of, rates_over, part_recovery, part_death};
+ghost use Rattle.rates.specs.design.Private.{formed, part_sound_of};
+ghost use Rattle.rates.specs.design.Prepared.{running_from, prepared_cell, has_mark, prepare_check, prepare_after, cells_of, sum_before, table_check_of, recovery_of, death_of, rates_over, part_recovery, part_death};
 
 use crate::{Cell, Kind, RateSums, is_table, place_of, sound};
 use basics::Duration;
@@ -40,7 +40,7 @@ fn prepare_cell(cell: &mut [u32])
 
 // Whether a table has the length of a prepared one and a mark.
 fn is_marked(table: &[u32], mark: u32) -> bool
-    ensures { result ≡ marked table.now mark }
+    ensures { result ≡ has_mark table.now mark }
 {
     match table.split_last() {
         Some((last, numbers)) => is_table(numbers.len()) && *last == mark,
@@ -77,7 +77,7 @@ pub struct RateTable<'a> {
 }
 
 // Whether a table has the length and the mark of its kind.
-#[tactic(auto, unfolding(crate::specs::Private::formed))]
+#[tactic(auto, unfolding(crate::specs::design::Private::formed))]
 fn is_formed(kind: Kind, table: &[u32]) -> bool
     ensures { result ≡ formed kind table.now }
 {
@@ -111,7 +111,7 @@ pub fn rate_table(kind: Kind, numbers: &[u32]) -> RateTable<'_>
 }
 
 // Check 8 of a cell's part. Of a prepared table the cell's first number tells.
-#[tactic(auto, unfolding(crate::specs::Private::part_sound_of))]
+#[tactic(auto, unfolding(crate::specs::design::Private::part_sound_of))]
 fn part_sound(kind: Kind, part: &[u32]) -> bool
     requires { length part.now ≡ cell_numbers }
     ensures { result ≡ part_sound_of kind part.now }

@@ -15,7 +15,7 @@ use Rattle.study.proofs.Returned.{calls-return}
 use Rattle.valuation.proofs.StudyFactor.{study-factors}
 use Rattle.claim_file.specs.Runs.{FileRun, CorrectedRun}
 use Rattle.claim_file.specs.Run.{file_run_with}
-use Rattle.claim_file.specs.PreparedRuns.{adding_with}
+use Rattle.claim_file.specs.design.PreparedRuns.{adding_with}
 use Rattle.claim_file.specs.Corrections.{corrected_run_with}
 use Rattle.claim_file.proofs.Kept.{run-kept, corrected-kept}
 use Rattle.claim_file.proofs.SameRuns.{same_runs}

@@ -12,10 +12,11 @@ use borrow.Rule.Slice.PartMut.{mid_of, put_mid, mid_len}
 use borrow.Author.Tests.{le-ltb}
 use Rattle.basics.specs.Pick.{pick}
 use Rattle.claim_file.specs.Runs.{FileRun}
-use Rattle.report.specs.Text.{run_text, run_line, RunLines, line_answer, line_after}
-use Rattle.report.specs.Private.{Put}
+use Rattle.report.specs.Text.{run_text, run_line, line_answer, line_after}
+use Rattle.report.specs.RunLines.{RunLines}
+use Rattle.report.specs.design.Private.{Put}
 use Rattle.report.proofs.Texts.{and_then, shorter, nothing}
-use Rattle.report.proofs.Lines.{Answered}
+use Rattle.report.proofs.RunLines.{Answered}
 use Rattle.report.proofs.RunLines.{run-lines}
 
 -- the first n lines of a run

@@ -8,7 +8,7 @@ use lib.ListN.{length, take, drop, length-append}
 use lib.Seq.{sets, sets-eq, length-sets, drop-drop}
 use borrow.Rule.Slice.PartMut.{put_mid}
 use Rattle.basics.proofs.Stores.{run}
-use Rattle.report.specs.Private.{Put}
+use Rattle.report.specs.design.Private.{Put}
 
 module _ {l a : List ℕ} {at : ℕ} where
   -- a text, and another behind it

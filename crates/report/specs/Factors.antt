@@ -7,7 +7,7 @@ use Rattle.valuation.specs.Factor.{factors_of}
 use Rattle.valuation.specs.StudyFactor.{terminations, expected_sum, study_factor}
 use Rattle.claim_file.specs.Runs.{FileRun}
 use Rattle.claim_file.specs.Run.{file_run_with, file_run}
-use Rattle.claim_file.specs.PreparedRuns.{adding_with}
+use Rattle.claim_file.specs.design.PreparedRuns.{adding_with}
 use Rattle.claim_file.specs.Corrections.{corrected_run}
 use Rattle.valuation.specs.declared.GroupFactor.{GroupFactor}
 use Rattle.report.specs.Text.{number_text, count_column, sum_columns, run_line}

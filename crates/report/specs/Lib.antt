@@ -1,6 +1,7 @@
--- `Text`: what the program prints. `Factors`: each of its lines has its T. `Digits`, `Counts`: a number's digits, and the bytes lent of a list. `Private`: what only private functions' contracts need.
+-- `Text`: what the program prints. `Factors`: each of its lines has its T. `Digits`, `Counts`: a number's digits, and the bytes lent of a list.
 pub mod Text
+pub mod RunLines
 pub mod Factors
 pub mod Digits
 pub mod Counts
-pub mod Private
+pub mod design

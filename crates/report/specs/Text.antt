@@ -1,5 +1,5 @@
 -- Document 01, Figures to hold it to: what the program prints, as bytes.
-use Rattle.std.specs.Prelude.{ℕ, zero, suc, ◌/◌, ◌≡◌, List, [], ◌∷◌, ◌++◌, length, drop, leb, ltb, eqb, ℤ, pos, negsuc, Err, Ok, Result}
+use Rattle.std.specs.Prelude.{ℕ, zero, suc, ◌/◌, List, [], ◌∷◌, ◌++◌, length, drop, leb, ltb, eqb, ℤ, pos, negsuc, Err, Ok, Result}
 use Rattle.report.specs.Digits.{last_digits}
 use Rattle.basics.specs.Pick.{pick}
 use Rattle.study.specs.Sums.{sum_at}
@@ -72,12 +72,6 @@ unfoldable pub run_line : FileRun → ℕ → List ℕ
 run_line r k =
     pick (eqb r.refused 0) (pick (eqb k 0) table_head (pick (leb k 5) (group_line r.study.sums k) []))
     (pick (eqb k 0) (refusal_line r.refused r.block r.place) [])
-
--- the promise that the lines 0 to 5, one behind another, are what a run prints (`run-lines` in proofs/)
-unfoldable pub RunLines : Type 0
-RunLines =
-    (r : FileRun)
-    → run_text r ≡ run_line r 0 ++ (run_line r 1 ++ (run_line r 2 ++ (run_line r 3 ++ (run_line r 4 ++ run_line r 5))))
 
 -- a line put into a lent list of at least `asked` bytes: its length is answered, and the list begins with it and is otherwise unchanged; a shorter
 -- list is answered 0, and keeps what it holds

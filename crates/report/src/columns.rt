@@ -2,7 +2,7 @@
 ghost use Rattle.std.specs.Prelude.{◌+◌, ◌≤◌, length};
 ghost use Rattle.valuation.specs.StudyFactor.{study_factor};
 ghost use Rattle.report.specs.Text.{sum_columns, factor_column};
-ghost use Rattle.report.specs.Private.{Put};
+ghost use Rattle.report.specs.design.Private.{Put};
 
 use crate::puts::{put_byte, put_number, put_sum};
 use study::sums::sum_at;

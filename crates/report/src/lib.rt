@@ -6,9 +6,9 @@
 
 ghost use Rattle.std.specs.Prelude.{◌≡◌, ◌≤◌, length};
 ghost use Rattle.report.specs.Counts.{IsPrefixLen};
-ghost use Rattle.claim_file.specs.LentRuns.{run_with};
+ghost use Rattle.claim_file.specs.design.LentRuns.{with_sums};
 ghost use Rattle.report.specs.Text.{table_head, group_line, refusal_line, run_text, run_line, line_answer, line_after};
-ghost use Rattle.report.specs.Private.{Put};
+ghost use Rattle.report.specs.design.Private.{Put};
 
 mod columns;
 mod digits;
@@ -83,8 +83,8 @@ pub fn refusal_line(number: u8, block: u32, place: u8, line: &mut [u8]) -> usize
 
 // Puts a line of what a run prints, 0 to 5, into a list of at least 200 bytes, and answers its length. The run's sums are lent.
 pub fn run_line(run: LentRun, sums: &[i64; 80], number: u8, line: &mut [u8]) -> usize
-    ensures value { result ≡ line_answer 200 line.old (run_line (run_with run sums.now) number) }
-    ensures line_after { line.new ≡ line_after 200 line.old (run_line (run_with run sums.now) number) }
+    ensures value { result ≡ line_answer 200 line.old (run_line (with_sums run sums.now) number) }
+    ensures line_after { line.new ≡ line_after 200 line.old (run_line (with_sums run sums.now) number) }
     ensures prefix_len { IsPrefixLen result line.new }
 {
     if line.len() < 200 {
@@ -107,8 +107,8 @@ pub fn run_line(run: LentRun, sums: &[i64; 80], number: u8, line: &mut [u8]) -> 
 
 // Puts all that a run prints into a list of at least 1,200 bytes, and answers its length.
 pub fn run_text(run: LentRun, sums: &[i64; 80], text: &mut [u8]) -> usize
-    ensures value { result ≡ line_answer 1200 text.old (run_text (run_with run sums.now)) }
-    ensures text_after { text.new ≡ line_after 1200 text.old (run_text (run_with run sums.now)) }
+    ensures value { result ≡ line_answer 1200 text.old (run_text (with_sums run sums.now)) }
+    ensures text_after { text.new ≡ line_after 1200 text.old (run_text (with_sums run sums.now)) }
     ensures prefix_len { IsPrefixLen result text.new }
 {
     if text.len() < 1200 {

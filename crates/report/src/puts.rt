@@ -2,7 +2,7 @@
 // Kept: place and list apart: `Put` ties the place given to the one answered, and would say the same of both fields of a struct, no shorter.
 ghost use Rattle.std.specs.Prelude.{◌≡◌, [], ◌∷◌, ◌+◌, ◌≤◌, ◌<◌, length};
 ghost use Rattle.report.specs.Text.{number_text, count_column, sum_column};
-ghost use Rattle.report.specs.Private.{Put};
+ghost use Rattle.report.specs.design.Private.{Put};
 
 use crate::digits::decimal;
 

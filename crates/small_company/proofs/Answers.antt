@@ -18,7 +18,7 @@ use Rattle.claim_months.specs.declared.Claim.{Claim}
 use Rattle.small_company.specs.declared.Counts.{Counts}
 use Rattle.small_company.specs.Company.{company_by_number}
 use Rattle.small_company.specs.SmallCompany.{listed_claims, list_sound, claims_check, company_check, first_within, open_by, is_recent, is_earlier, recent_count, earlier_count, is_exempt, company_of}
-use Rattle.small_company.specs.Private.{recent_in, earlier_in, counts_of, counted_of, exempt_by, judged_of}
+use Rattle.small_company.specs.design.Private.{recent_in, earlier_in, counts_of, counted_of, exempt_by, judged_of}
 use Rattle.small_company.proofs.Refusals.{not-zero}
 use Rattle.std.specs.Prelude.{Ok, Err}
 

@@ -19,7 +19,7 @@ use Rattle.claim_months.specs.Claim.{claim_check}
 use Rattle.claim_file.specs.Record.{claim_from, record_padded}
 use Rattle.small_company.specs.declared.Counts.{Counts}
 use Rattle.small_company.specs.SmallCompany.{listed_claims, claims_check, those}
-use Rattle.small_company.specs.Private.{recent_in, earlier_in, counts_of, with_one, counted_of}
+use Rattle.small_company.specs.design.Private.{recent_in, earlier_in, counts_of, with_one, counted_of}
 use Rattle.small_company.proofs.Refusals.{not-zero}
 use Rattle.small_company.proofs.Listing.{records, claims_left, padded_left, claims-all, claims-at, padded-at, claims-end}
 

@@ -1,4 +1,5 @@
--- What the small company rule means: document 02, request No. 14. `Private` has what only private functions' contracts cite.
+-- What the small company rule means: document 02, request No. 14.
 pub mod Company
 pub mod SmallCompany
-pub mod Private
+pub mod SmallCompanyRule
+pub mod design

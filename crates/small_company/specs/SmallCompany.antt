@@ -1,5 +1,5 @@
 -- Document 02, request No. 14, the small company rule (source document 003, section D): a carrier with few open claims is exempt, and keeps the table.
-use Rattle.std.specs.Prelude.{ℕ, zero, suc, ◌-◌, ◌*◌, ◌/◌, ◌%◌, ◌<◌, min, max, ◌≡◌, Bool, true, false, ◌&&◌, List, [], ◌∷◌, length, get_or, leb, ltb, eqb}
+use Rattle.std.specs.Prelude.{ℕ, zero, suc, ◌-◌, ◌*◌, ◌/◌, ◌%◌, min, max, Bool, true, false, ◌&&◌, List, [], ◌∷◌, length, get_or, leb, ltb, eqb}
 use Rattle.basics.specs.Pick.{pick}
 use Rattle.basics.specs.Checks.{check, ◌then◌, refuse_date, refuse_block}
 use Rattle.basics.specs.Tables.{table}
@@ -95,19 +95,3 @@ company_of d bytes new old =
       t = pick (is_exempt d bytes) (table 5 (λ k. 1000000)) new;
     })
     (record { refused = company_check d bytes; exempt = false; recent = 0; earlier = 0; group = 0; t = table 5 (λ k. 0) })
-
--- What the rule says of every answer that is not a refusal. `proofs/Rules.antt` proves it
-pub record SmallCompanyRule : Type 0 where
-  -- exempt precisely when both counts are below their limits
-  pub exempt_where : (d : Date) (bytes new old : List ℕ) → company_check d bytes ≡ 0
-      → recent_count d bytes < 50 → earlier_count d bytes < 200 → (company_of d bytes new old).exempt ≡ true
-  pub exempt_only : (d : Date) (bytes new old : List ℕ) → company_check d bytes ≡ 0
-      → (company_of d bytes new old).exempt ≡ true → (recent_count d bytes < 50) × (earlier_count d bytes < 200)
-  -- a claim counts in one of both counts at most
-  pub one_count : (d : Date) (c : Claim) → is_recent d c ≡ true → is_earlier d c ≡ false
-  -- the group told is the first that moved far, and 0 says that none did
-  pub group_first : (d : Date) (bytes new old : List ℕ) (k : ℕ) → company_check d bytes ≡ 0 → (company_of d bytes new old).exempt ≡ false
-      → (company_of d bytes new old).group ≡ suc k
-      → (k < 5) × (moves_far (get_or new k 0) (get_or old k 0) ≡ true) × ((i : ℕ) → i < k → moves_far (get_or new i 0) (get_or old i 0) ≡ false)
-  pub group_none : (d : Date) (bytes new old : List ℕ) (i : ℕ) → company_check d bytes ≡ 0 → (company_of d bytes new old).exempt ≡ false
-      → (company_of d bytes new old).group ≡ 0 → i < 5 → moves_far (get_or new i 0) (get_or old i 0) ≡ false

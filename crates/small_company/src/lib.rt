@@ -6,7 +6,7 @@ ghost use Rattle.basics.specs.Refused.{numbered};
 ghost use Rattle.calendar.specs.Calendar.{is_date};
 ghost use Rattle.small_company.specs.SmallCompany.{list_sound, listed_claims, two_years_before, first_within, moves_far, first_moved, company_of};
 ghost use Rattle.small_company.specs.Company.{company_by_number};
-ghost use Rattle.small_company.specs.Private.{with_one, counted_of, exempt_by, judged_of};
+ghost use Rattle.small_company.specs.design.Private.{with_one, counted_of, exempt_by, judged_of};
 
 use basics::refusal::Refusal;
 use calendar::{Date, Day};

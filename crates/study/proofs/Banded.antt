@@ -13,7 +13,7 @@ use Rattle.basics.specs.Series.{sum_to}
 use Rattle.basics.proofs.Integers.{size-sum, size-product}
 use Rattle.basics.proofs.Signed.{small-fits, read_back, result-is}
 use Rattle.claim_months.specs.Span.{band_sum}
-use Rattle.rates.specs.Prepared.{rates_over}
+use Rattle.rates.specs.design.Prepared.{rates_over}
 use Rattle.rates.proofs.Laws.{over-is}
 
 abbrev back : ℤ → ℤ

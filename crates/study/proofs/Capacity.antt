@@ -28,10 +28,10 @@ use Rattle.claim_months.proofs.Closing.{closings-value, closing_duration}
 use Rattle.rates.specs.Rates.{group_of, rate_check}
 use Rattle.rates.specs.declared.Kind.{Kind}
 use Rattle.rates.proofs.Laws.{recovery-bound, death-bound}
-use Rattle.rates.proofs.PreparedTables.{recovery-size, death-size}
+use Rattle.rates.proofs.SameTable.{recovery-size, death-size}
 use Rattle.study.specs.Sums.{group_at, column_at, is_count, times_at, none, plus, column_bound, within}
 use Rattle.study.specs.Study.{count_in_group, group_weight, exposure, closing_count, expected, figure, record_sums, share_of, sum_over, study_of, has_room, own_refusal}
-use Rattle.study.specs.PreparedAdding.{share_with}
+use Rattle.study.specs.design.PreparedAdding.{share_with}
 use Rattle.study.proofs.Algebra.{Shaped, at, each_at, none-at, times-shaped, times-at}
 use Rattle.study.proofs.Places.{by_column}
 use Rattle.study.proofs.InBounds.{place_bound, in_is, all-is}

@@ -24,12 +24,12 @@ use Rattle.rates.specs.declared.Kind.{Kind}
 use Rattle.study.specs.declared.Study.{Study}
 use Rattle.study.specs.Sums.{group_at, column_at, times_at, sum_at, none, plus}
 use Rattle.study.specs.Study.{count_in_group, closing_count, figure, record_sums, share_of, sum_over, study_of, fresh, opened_with, opened, own_refusal, accepted}
-use Rattle.study.specs.PreparedAdding.{add_check_with, share_with, added_with, lent_study}
+use Rattle.study.specs.design.PreparedAdding.{add_check_with, share_with, added_with, lent_study}
 use Rattle.study.specs.Closings.{closed_under, group_closings, all_closings, ClosedOnce, Closings}
 use Rattle.study.proofs.Algebra.{at, each_at, none-at}
 use Rattle.study.proofs.Places.{a-count}
 use Rattle.study.proofs.Capacity.{accepted-sound, records-at}
-use Rattle.study.proofs.LentSums.{taken-passed}
+use Rattle.study.proofs.LentAdding.{taken-passed}
 use Rattle.std.specs.Prelude.{Result}
 
 -- a place of the first set has a group and a column

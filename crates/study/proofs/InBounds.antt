@@ -21,7 +21,7 @@ use Rattle.basics.specs.Tables.{every_place}
 use Rattle.basics.proofs.Tests.{tests, by, and_left, and_right}
 use Rattle.basics.proofs.Tables.{every-at, every-is}
 use Rattle.study.specs.declared.bounds.Bounds.{Bounds}
-use Rattle.study.specs.Private.{bound_in, counts_in_bounds, group_in_bounds}
+use Rattle.study.specs.design.Private.{bound_in, counts_in_bounds, group_in_bounds}
 use Rattle.study.specs.Sums.{column_at, is_count, times_at, column_bound, in_bounds, all_in_bounds, within}
 use Rattle.study.proofs.Algebra.{at}
 use Rattle.study.proofs.Places.{by_column}

@@ -13,14 +13,15 @@ use Rattle.claim_months.specs.declared.Window.{Window}
 use Rattle.claim_months.specs.Claim.{claim_check, weight}
 use Rattle.claim_months.specs.Windows.{window_check}
 use Rattle.rates.specs.declared.Kind.{Kind}
-use Rattle.rates.specs.Prepared.{table_check_of}
+use Rattle.rates.specs.design.Prepared.{table_check_of}
 use Rattle.study.specs.Sums.{none, within}
 use Rattle.study.specs.Study.{sum_over, study_of}
-use Rattle.study.specs.PreparedAdding.{share_with, lent_study, add_check_told, added_to_lent}
-use Rattle.study.specs.Private.{share_number}
+use Rattle.study.specs.design.PreparedAdding.{share_with, lent_study}
+use Rattle.study.specs.design.LentAdding.{add_check_told, added_to_lent}
+use Rattle.study.specs.design.Private.{share_number}
 use Rattle.study.proofs.Algebra.{Shaped, plus_none}
 use Rattle.study.proofs.Capacity.{records-shaped, built-within}
-use Rattle.study.proofs.LentSums.{guarded-plus}
+use Rattle.study.proofs.LentAdding.{guarded-plus}
 
 then-zero : (n : ℕ) → (n then 0) ≡ n
 unfolding ◌then◌

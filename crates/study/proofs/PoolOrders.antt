@@ -13,7 +13,7 @@ use Rattle.study.specs.PoolTrees.{PoolTree, leaf, join, leaves, tree_claims, All
 use Rattle.study.specs.PoolOrders.{claims_of, AllAllowed, Arranged, AnyOrder}
 use Rattle.study.proofs.SumOver.{SameSums, swap-front, sum-append, same_length}
 use Rattle.study.proofs.Built.{study-same}
-use Rattle.study.proofs.Groupings.{any-grouping}
+use Rattle.study.proofs.AnyGrouping.{any-grouping}
 
 module _ (rates : List ℕ) where
   claims-append : (xs ys : List (List Move)) → claims_of rates (xs ++ ys) ≡ claims_of rates xs ++ claims_of rates ys

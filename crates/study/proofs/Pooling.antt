@@ -22,7 +22,8 @@ use Rattle.study.specs.Answers.{Answer}
 use Rattle.study.specs.Sums.{none, plus, within}
 use Rattle.study.specs.Study.{share_of, study_of, opened}
 use Rattle.study.specs.Moves.{remaining}
-use Rattle.study.specs.Joining.{same_window, join_room, join_check, together, joined, added_all, Pool, pool_answer, pool_claims, pool_window, Poolable, PoolsClaims, Pooling, SameClaims}
+use Rattle.study.specs.Joining.{same_window, join_room, join_check, together, joined, added_all, Pool, pool_answer, pool_claims, pool_window, Poolable, PoolsClaims, SameClaims}
+use Rattle.study.specs.Pooling.{Pooling}
 use Rattle.study.proofs.Algebra.{Shaped}
 use Rattle.study.proofs.SumOver.{All, sums, sum-append, same_length}
 use Rattle.study.proofs.Capacity.{Accepted as AcceptedClaim, share-shaped, built-within}

@@ -15,16 +15,16 @@ use Rattle.claim_months.specs.declared.Claim.{Claim}
 use Rattle.claim_months.specs.Claim.{claim_check}
 use Rattle.claim_months.specs.Windows.{window_check}
 use Rattle.rates.specs.declared.Kind.TheVariants.{Plain, Prepared}
-use Rattle.rates.specs.Prepared.{table_check_of, recovery_of, death_of, prepared_of}
-use Rattle.rates.proofs.PreparedTables.{same-table}
+use Rattle.rates.specs.design.Prepared.{table_check_of, recovery_of, death_of, prepared_of}
+use Rattle.rates.proofs.SameTable.{same-table}
 use Rattle.study.specs.declared.Study.{Study}
 use Rattle.study.specs.Answers.{Answer}
 use Rattle.study.specs.Sums.{minus}
 use Rattle.study.specs.Study.{share_of}
-use Rattle.study.specs.PreparedAdding.{share_with, lent_study}
+use Rattle.study.specs.design.PreparedAdding.{share_with, lent_study}
 use Rattle.study.specs.Withdrawing.{withdraw_room, covers, can_withdraw, withdraw_check, without_claim, withdrawn}
-use Rattle.study.specs.PreparedWithdrawing.{can_withdraw_with, withdraw_check_with, withdrawn_with, SameWithdrawing}
-use Rattle.study.proofs.EitherTable.{prepared-share}
+use Rattle.study.specs.design.PreparedWithdrawing.{can_withdraw_with, withdraw_check_with, withdrawn_with, SameWithdrawing}
+use Rattle.study.proofs.SameAdding.{prepared-share}
 
 pub plain-withdrawn : (s : Study) (c : Claim) (rates : List ℕ) → withdrawn_with Plain s c rates ≡ withdrawn s c rates
 unfolding withdrawn_with withdraw_check_with can_withdraw_with share_with withdrawn withdraw_check can_withdraw without_claim share_of table_check_of recovery_of death_of

@@ -16,13 +16,13 @@ use Rattle.basics.proofs.Tests.{tests, by, pick_is}
 use Rattle.basics.proofs.Tables.{table_at, table-length, table_same, list-table}
 use Rattle.claim_months.specs.declared.Span.{Span}
 use Rattle.claim_months.specs.Span.{span_u, span_b, span_weighted, band_sum, span_band, SpanBounds}
-use Rattle.claim_months.proofs.Bands.{band-same, band-none, band-adds}
+use Rattle.claim_months.proofs.SpanIsBand.{band-same, band-none, band-adds}
 use Rattle.rates.specs.Rates.{group_of, group_last}
 use Rattle.rates.proofs.Laws.{group-same, group-next, last-from}
 use Rattle.study.specs.Sums.{group_at, column_at, is_count, times_at}
 use Rattle.study.specs.Study.{group_weight}
-use Rattle.study.specs.PreparedAdding.{guarded_sum, guarded_plus}
-use Rattle.study.specs.Private.{column_rate, months_figure, closing_figure, share_by, span_figure, one_figure}
+use Rattle.study.specs.design.LentAdding.{guarded_sum, guarded_plus}
+use Rattle.study.specs.design.Private.{column_rate, months_figure, closing_figure, share_by, span_figure, one_figure}
 use Rattle.study.proofs.Algebra.{Shaped, at}
 use Rattle.study.proofs.Places.{a-count}
 

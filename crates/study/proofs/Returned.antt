@@ -13,12 +13,12 @@ use Rattle.claim_months.proofs.DateWindows.{dates-sound, windowed}
 use Rattle.claim_months.proofs.Parts.{window-bounds}
 use Rattle.study.specs.declared.Study.{Study}
 use Rattle.study.specs.Study.{fresh, opened_with, opened}
-use Rattle.study.specs.PreparedAdding.{add_check_with, added_with}
-use Rattle.study.specs.PreparedWithdrawing.{withdraw_check_with, withdrawn_with}
+use Rattle.study.specs.design.PreparedAdding.{add_check_with, added_with}
+use Rattle.study.specs.design.PreparedWithdrawing.{withdraw_check_with, withdrawn_with}
 use Rattle.study.specs.Joining.{join_check, together, joined}
 use Rattle.study.specs.Returned.{Returned, Returns, CallsReturn}
 use Rattle.study.proofs.Algebra.{each-shaped, none-shaped}
-use Rattle.study.proofs.LentSums.{taken-passed}
+use Rattle.study.proofs.LentAdding.{taken-passed}
 use Rattle.study.proofs.Joins.{joins}
 use Rattle.claim_months.specs.declared.Window.{Window}
 use Rattle.std.specs.Prelude.{Result}

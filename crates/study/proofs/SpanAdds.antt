@@ -20,11 +20,11 @@ use Rattle.claim_months.specs.declared.Span.{Span}
 use Rattle.claim_months.specs.Claim.{weight}
 use Rattle.claim_months.specs.Span.{span_in}
 use Rattle.rates.specs.declared.Kind.{Kind}
-use Rattle.rates.specs.Prepared.{table_check_of, recovery_of, death_of, part_recovery, part_death}
+use Rattle.rates.specs.design.Prepared.{table_check_of, recovery_of, death_of, part_recovery, part_death}
 use Rattle.rates.proofs.Parts.{cell_part, cell-within, part-recovery, part-death}
 use Rattle.study.specs.declared.Study.{Study}
-use Rattle.study.specs.PreparedAdding.{guarded_plus, added_to_lent}
-use Rattle.study.specs.Private.{months_figure, closing_figure, share_by, span_share, span_number, span_sums}
+use Rattle.study.specs.design.LentAdding.{guarded_plus, added_to_lent}
+use Rattle.study.specs.design.Private.{months_figure, closing_figure, share_by, span_share, span_number, span_sums}
 use Rattle.study.proofs.Raised.{span-added}
 use Rattle.study.proofs.WithSpan.{spanned-number, spanned-sums, refused-number, refused-study}
 

@@ -28,7 +28,8 @@ use Rattle.study.specs.Answers.{Answer}
 use Rattle.study.specs.Sums.{column_at, is_count, none, plus, minus}
 use Rattle.study.specs.Study.{share_of, sum_over, study_of, opened, added, own_refusal}
 use Rattle.study.specs.Withdrawing.{withdraw_room, covers, can_withdraw, withdraw_check, without_claim, withdrawn}
-use Rattle.study.specs.Moves.{Move, times_in, without, remaining_after, remaining, allowed_after, Allowed, moved, moved_all, move_answers, due_answers, Dates, dates_of, Accepted, moved_at, answers_in, TakenBack}
+use Rattle.study.specs.Moves.{Move, times_in, without, remaining_after, remaining, allowed_after, Allowed, moved, moved_all, move_answers, due_answers, Dates, dates_of, Accepted, moved_at, answers_in}
+use Rattle.study.specs.TakenBack.{TakenBack}
 use Rattle.study.proofs.Algebra.{Shaped, at, each_at, plus_comm, minus_plus}
 use Rattle.study.proofs.SumOver.{All, sums, good-sum, same_length}
 use Rattle.study.proofs.Capacity.{Accepted as AcceptedClaim, accepted-checks, accepted-rates, share-shaped, shares-sized, built-within}

@@ -27,8 +27,9 @@ use Rattle.study.specs.declared.Study.{Study}
 use Rattle.study.specs.Answers.{Answer}
 use Rattle.study.specs.Sums.{group_at, column_at, times_at}
 use Rattle.study.specs.Study.{count_in_group, group_weight, exposure, closing_count, expected, figure, record_sums}
-use Rattle.study.specs.PreparedAdding.{share_with, lent_study, guarded_plus, add_check_told, added_to_lent}
-use Rattle.study.specs.Private.{column_rate, months_figure, closing_figure, share_by, span_figure, span_share, span_number, span_sums}
+use Rattle.study.specs.design.PreparedAdding.{share_with, lent_study}
+use Rattle.study.specs.design.LentAdding.{guarded_plus, add_check_told, added_to_lent}
+use Rattle.study.specs.design.Private.{column_rate, months_figure, closing_figure, share_by, span_figure, span_share, span_number, span_sums}
 use Rattle.study.proofs.Places.{by_column}
 use Rattle.study.proofs.Capacity.{records-at, records-shaped}
 use Rattle.std.specs.Prelude.{Err, Ok}

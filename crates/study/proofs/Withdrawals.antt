@@ -27,14 +27,15 @@ use Rattle.claim_months.specs.declared.Window.{Window}
 use Rattle.claim_months.specs.Claim.{claim_check, weight}
 use Rattle.claim_months.specs.Windows.{window_check}
 use Rattle.rates.specs.declared.Kind.{Kind}
-use Rattle.rates.specs.Prepared.{table_check_of}
+use Rattle.rates.specs.design.Prepared.{table_check_of}
 use Rattle.study.specs.declared.Study.{Study}
 use Rattle.study.specs.Answers.{Answer}
 use Rattle.study.specs.Sums.{column_at, is_count, times_at, none, minus, within}
-use Rattle.study.specs.PreparedAdding.{share_with, lent_study, added_to_lent}
+use Rattle.study.specs.design.PreparedAdding.{share_with, lent_study}
+use Rattle.study.specs.design.LentAdding.{added_to_lent}
 use Rattle.study.specs.Withdrawing.{withdraw_room, covers}
-use Rattle.study.specs.PreparedWithdrawing.{can_withdraw_with, withdraw_check_with, withdrawn_with}
-use Rattle.study.specs.Private.{share_number, small_share, last_checks}
+use Rattle.study.specs.design.PreparedWithdrawing.{can_withdraw_with, withdraw_check_with, withdrawn_with}
+use Rattle.study.specs.design.Private.{share_number, small_share, last_checks}
 use Rattle.study.proofs.Algebra.{Shaped, at}
 use Rattle.study.proofs.Places.{by_column}
 use Rattle.study.proofs.InBounds.{times-most, within-high}

@@ -8,7 +8,7 @@ use Rattle.rates.specs.declared.Kind.{Kind}
 use Rattle.study.specs.declared.Study.{Study}
 use Rattle.study.specs.Sums.{sum_at}
 use Rattle.study.specs.Study.{study_of, opened, accepted}
-use Rattle.study.specs.PreparedAdding.{added_with}
+use Rattle.study.specs.design.PreparedAdding.{added_with}
 
 -- the closings of a group under a category. (Handed in below 0, which no claims give, a count is taken by its size)
 abbrev pub closed_under : List ℤ → ℕ → ℕ → ℕ

@@ -1,15 +1,14 @@
 -- Document 02, request No. 3: pooling affiliates. Two studies of the same window joined into one.
 use Rattle.std.specs.Prelude.{ℕ, ◌+◌, ◌≤◌, ◌≡◌, Bool, ◌&&◌, List, [], ◌∷◌, ◌++◌, length, leb, eqb}
-use Rattle.basics.specs.Pick.{pick}
 use Rattle.basics.specs.Limits.{most_claims}
 use Rattle.basics.specs.Checks.{check, ◌then◌, refuse_full, refuse_other_window}
 use Rattle.claim_months.specs.declared.Claim.{Claim}
 use Rattle.claim_months.specs.declared.Window.{Window}
-use Rattle.claim_months.specs.Windows.{window_check, Parts, total}
+use Rattle.claim_months.specs.Windows.{window_check}
 use Rattle.study.specs.declared.Study.{Study}
 use Rattle.study.specs.Answers.{Answer}
 use Rattle.study.specs.Sums.{plus, within}
-use Rattle.study.specs.Study.{study_of, opened, study_answer, added}
+use Rattle.study.specs.Study.{study_answer, added}
 use Rattle.study.specs.Moves.{Move, times_in, remaining, Allowed, Dates, dates_of, Accepted, moved_at}
 
 abbrev pub study_window_check : Study → ℕ
@@ -70,20 +69,3 @@ Poolable rates p = Accepted p.dates × Allowed rates p.one × Allowed rates p.ot
 -- the same, with at most 500,000 claims together, and the claims of a whole window's pool up to order
 abbrev pub PoolsClaims : List ℕ → List Claim → Pool → Type 0
 PoolsClaims rates cs p = Poolable rates p × (length (pool_claims rates p) ≤ most_claims) × SameClaims (pool_claims rates p) cs
-
--- Request No. 3, of built studies of one accepted window and one table. `proofs/Pooling.antt` proves it
-pub record Pooling : Type 0 where
-  -- the answer is 0 exactly if together they hold at most 500,000 claims, else 9
-  pub answer : (rates : List ℕ) (p : Pool) → Poolable rates p
-      → (pool_answer rates p).refused ≡ pick (leb (length (pool_claims rates p)) most_claims) 0 refuse_full
-  -- then the study is that of both lists of claims remaining, one after the other, and the one that adding their claims, in any order, to a fresh study
-  -- returns
-  pub study : (rates : List ℕ) (p : Pool) → Poolable rates p → length (pool_claims rates p) ≤ most_claims
-      → (pool_answer rates p).study ≡ study_of (pool_window p) rates (pool_claims rates p)
-  pub added_study : (rates : List ℕ) (p : Pool) (cs : List Claim) → Poolable rates p → length (pool_claims rates p) ≤ most_claims
-      → SameClaims cs (pool_claims rates p)
-      → (pool_answer rates p).study ≡ added_all rates (opened p.dates.first p.dates.last).study cs
-  -- where a whole window and its consecutive parts are pooled likewise, the pooled parts total the pooled whole in both sets
-  pub parts_total : (rates : List ℕ) (whole part : Pool) (parts : List Pool) → PoolsClaims rates (pool_claims rates whole) whole
-      → Parts (PoolsClaims rates (pool_claims rates whole)) pool_window (pool_window whole).first.0 (pool_window whole).last.0 part parts
-      → total plus (λ p. (pool_answer rates p).study.sums) part parts ≡ (pool_answer rates whole).study.sums

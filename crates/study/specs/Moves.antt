@@ -7,11 +7,10 @@ use Rattle.basics.specs.Checks.{check, ◌then◌, refuse_full}
 use Rattle.calendar.specs.declared.Date.{Date}
 use Rattle.claim_months.specs.declared.Claim.{Claim}
 use Rattle.claim_months.specs.declared.Window.{Window}
-use Rattle.claim_months.specs.Windows.{between, Parts, total, EveryPart}
+use Rattle.claim_months.specs.Windows.{between}
 use Rattle.study.specs.declared.Study.{Study}
 use Rattle.study.specs.Answers.{Answer}
-use Rattle.study.specs.Sums.{plus}
-use Rattle.study.specs.Study.{study_of, opened, added, own_refusal}
+use Rattle.study.specs.Study.{opened, added, own_refusal}
 use Rattle.study.specs.Withdrawing.{withdrawn}
 
 -- a move: adding a claim, or withdrawing it
@@ -96,17 +95,3 @@ moved_at rates ms d = moved_all rates (opened d.first d.last).study ms
 
 abbrev pub answers_in : List ℕ → List Move → Dates → List ℕ
 answers_in rates ms d = move_answers rates (opened d.first d.last).study ms
-
--- Request No. 10: for every table, every list of allowed moves, of any length, and every accepted window; and the same list in a whole window and
--- in each part gives the same answers everywhere, and the parts total the whole in both sets. `proofs/TakenBack.antt` proves it
-pub record TakenBack : Type 0 where
-  pub answers : (rates : List ℕ) (ms : List Move) (d : Dates) → Accepted d → Allowed rates ms
-      → answers_in rates ms d ≡ due_answers rates [] ms
-  pub study : (rates : List ℕ) (ms : List Move) (d : Dates) → Accepted d → Allowed rates ms
-      → moved_at rates ms d ≡ study_of (dates_of d) rates (remaining rates ms)
-  pub same_answers : (rates : List ℕ) (ms : List Move) (whole part : Dates) (parts : List Dates) → Accepted whole → Allowed rates ms
-      → Parts Accepted dates_of (dates_of whole).first.0 (dates_of whole).last.0 part parts
-      → EveryPart (λ d. answers_in rates ms d ≡ answers_in rates ms whole) part parts
-  pub parts_total : (rates : List ℕ) (ms : List Move) (whole part : Dates) (parts : List Dates) → Accepted whole → Allowed rates ms
-      → Parts Accepted dates_of (dates_of whole).first.0 (dates_of whole).last.0 part parts
-      → total plus (λ d. (moved_at rates ms d).sums) part parts ≡ (moved_at rates ms whole).sums

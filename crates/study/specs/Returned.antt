@@ -8,8 +8,8 @@ use Rattle.rates.specs.declared.Kind.{Kind}
 use Rattle.study.specs.declared.Study.{Study}
 use Rattle.study.specs.Answers.{Answer}
 use Rattle.study.specs.Study.{opened}
-use Rattle.study.specs.PreparedAdding.{added_with}
-use Rattle.study.specs.PreparedWithdrawing.{withdrawn_with}
+use Rattle.study.specs.design.PreparedAdding.{added_with}
+use Rattle.study.specs.design.PreparedWithdrawing.{withdrawn_with}
 use Rattle.study.specs.Joining.{joined}
 
 pub record Returned (s : Study) : Type 0 where

@@ -1,4 +1,4 @@
--- Document 02, request No. 7: of claims whose benefits are all 0 or 1 the weighted set is the first. `proofs/Weights.antt` proves it
+-- Document 02, request No. 7: of claims whose benefits are all 0 or 1 the weighted set is the first. `proofs/Weighting.antt` proves it
 use Rattle.std.specs.Prelude.{ℕ, ◌+◌, ◌≤◌, ◌<◌, ◌≡◌, List, [], ◌∷◌, get_or, pos}
 use Rattle.claim_months.specs.declared.Claim.{Claim}
 use Rattle.claim_months.specs.declared.Window.{Window}

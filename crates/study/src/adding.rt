@@ -3,8 +3,9 @@ ghost use Rattle.std.specs.Prelude.{◌≡◌};
 ghost use Rattle.basics.specs.Refused.{number_of, number_refused};
 ghost use Rattle.study.specs.Answers.{by_number};
 ghost use Rattle.study.specs.Study.{added};
-ghost use Rattle.study.specs.PreparedAdding.{lent_study, added_to_lent, added_with};
-ghost use Rattle.study.specs.Private.{span_number, span_sums};
+ghost use Rattle.study.specs.design.PreparedAdding.{lent_study, added_with};
+ghost use Rattle.study.specs.design.LentAdding.{added_to_lent};
+ghost use Rattle.study.specs.design.Private.{span_number, span_sums};
 
 use crate::share::Share;
 use crate::sums::has_room;

@@ -1,6 +1,6 @@
 // What a month expects: the rates of its duration times its thirtieths.
 ghost use Rattle.std.specs.Prelude.{◌≡◌, ◌*◌, ◌≤◌, nat_abs, ◌*ℤ◌};
-ghost use Rattle.rates.specs.Prepared.{rates_over, part_recovery, part_death};
+ghost use Rattle.rates.specs.design.Prepared.{rates_over, part_recovery, part_death};
 
 use basics::Duration;
 use rates::prepared::rates_over;

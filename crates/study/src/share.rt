@@ -3,9 +3,9 @@ ghost use Rattle.std.specs.Prelude.{◌≡◌, ◌+◌, ◌-◌, ◌*◌, ◌≤
 ghost use Rattle.basics.specs.Limits.{most_benefit};
 ghost use Rattle.claim_months.specs.Span.{span_u, band_sum, SpanBounds};
 ghost use Rattle.rates.specs.Rates.{group_last};
-ghost use Rattle.rates.specs.Prepared.{part_recovery, part_death};
-ghost use Rattle.study.specs.PreparedAdding.{guarded_plus};
-ghost use Rattle.study.specs.Private.{months_figure, closing_figure, share_by};
+ghost use Rattle.rates.specs.design.Prepared.{part_recovery, part_death};
+ghost use Rattle.study.specs.design.LentAdding.{guarded_plus};
+ghost use Rattle.study.specs.design.Private.{months_figure, closing_figure, share_by};
 
 use crate::expected::month_expected;
 use crate::sums::{DEATHS, RECOVERIES, THIRTIETHS, raise_both};

@@ -4,8 +4,8 @@ ghost use Rattle.std.specs.Prelude.{◌≡◌, ◌&&◌, ◌||◌, ◌+◌, ◌*
 ghost use Rattle.std.specs.Int.Signed.{non_neg};
 ghost use Rattle.basics.specs.Limits.{most_benefit, most_expected};
 ghost use Rattle.study.specs.Sums.{is_count, times_at, none, column_bound, all_in_bounds, within, sum_at};
-ghost use Rattle.study.specs.PreparedAdding.{room_for, guarded_sum, guarded_plus};
-ghost use Rattle.study.specs.Private.{bound_in, group_in_bounds, counts_in_bounds, share_by, one_figure};
+ghost use Rattle.study.specs.design.LentAdding.{room_for, guarded_sum, guarded_plus};
+ghost use Rattle.study.specs.design.Private.{bound_in, group_in_bounds, counts_in_bounds, share_by, one_figure};
 
 use crate::bounds::Bounds;
 use basics::limits::{MOST_BENEFIT, MOST_CLAIMS, MOST_EXPECTED, MOST_THIRTIETHS};
@@ -119,7 +119,7 @@ fn all_within(sums: &[i64; 80], bounds: Bounds) -> bool
 }
 
 // Whether a study's sums are within the bounds of refusal 9.
-#[tactic(auto, unfolding(crate::specs::Sums::column_bound, crate::specs::Private::bound_in))]
+#[tactic(auto, unfolding(crate::specs::Sums::column_bound, crate::specs::design::Private::bound_in))]
 pub fn has_room(sums: &[i64; 80]) -> bool
     ensures { result ≡ within sums.now }
 {
@@ -134,7 +134,7 @@ pub fn has_room(sums: &[i64; 80]) -> bool
 }
 
 // Whether a block's fifteen claims, whatever their shares, leave them there.
-#[tactic(auto, unfolding(crate::specs::PreparedAdding::spare_bound, crate::specs::Private::bound_in))]
+#[tactic(auto, unfolding(crate::specs::design::LentAdding::spare_bound, crate::specs::design::Private::bound_in))]
 pub fn has_room_for_block(sums: &[i64; 80]) -> bool
     ensures { result ≡ room_for 15 sums.now }
 {
@@ -149,7 +149,7 @@ pub fn has_room_for_block(sums: &[i64; 80]) -> bool
 }
 
 // Adds an amount at a place, unless the sum is past every bound of its set: so 64 bits hold any sum.
-#[tactic(auto, unfolding(crate::specs::PreparedAdding::guarded_sum))]
+#[tactic(auto, unfolding(crate::specs::design::LentAdding::guarded_sum))]
 fn raise(sums: &mut [i64; 80], place: usize, amount: i64, most: u64)
     requires place_in_bounds { place < 80 }
     requires most_value { most ≡ times_at most_benefit place * most_expected }

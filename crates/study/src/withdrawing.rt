@@ -3,8 +3,8 @@ ghost use Rattle.std.specs.Prelude.{◌≡◌};
 ghost use Rattle.basics.specs.Refused.{number_refused};
 ghost use Rattle.study.specs.Answers.{by_number};
 ghost use Rattle.study.specs.Withdrawing.{covers, withdrawn};
-ghost use Rattle.study.specs.PreparedWithdrawing.{withdrawn_with};
-ghost use Rattle.study.specs.Private.{last_checks};
+ghost use Rattle.study.specs.design.PreparedWithdrawing.{withdrawn_with};
+ghost use Rattle.study.specs.design.Private.{last_checks};
 
 use crate::adding::add_to;
 use crate::pairs::each;
@@ -26,7 +26,7 @@ fn has_counts(sums: &[i64; 80], share: &[i64; 80]) -> bool
 }
 
 // The checks 9 and 18 of a withdrawal, of the claims taken, the sums and the claim's share.
-#[tactic(auto, using(basics::proofs::Checks::then_is), unfolding(crate::specs::Private::last_checks))]
+#[tactic(auto, using(basics::proofs::Checks::then_is), unfolding(crate::specs::design::Private::last_checks))]
 fn last_checks(taken: u32, sums: &[i64; 80], share: &[i64; 80]) -> Result<(), Refusal>
     ensures { number_refused result ≡ last_checks taken sums.now share.now }
 {

@@ -15,7 +15,7 @@ use Rattle.basics.proofs.Tests.{tests, by}
 use Rattle.rates.specs.Rates.{table_sound, rates_sound, cells, rate_check}
 use Rattle.valuation.specs.Rate.{valuation_rate, duration_sound, valuation_check, rate_in}
 use Rattle.valuation.specs.Reserve.{reserve_of, discount_sound, reserve_check, reserve_in}
-use Rattle.valuation.specs.Private.{handed_on}
+use Rattle.valuation.specs.design.Private.{handed_on}
 use Rattle.valuation.proofs.ReserveLaws.{zero_bits, one-bits}
 use Rattle.std.specs.Prelude.{Ok, Err}
 use Rattle.valuation.specs.declared.Reserve.TheVariants as reserve

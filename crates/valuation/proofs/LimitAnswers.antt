@@ -31,7 +31,7 @@ use Rattle.valuation.specs.ReserveLimit.{
   judged_t,
   limit_of,
 }
-use Rattle.valuation.specs.Private.{totals_of}
+use Rattle.valuation.specs.design.Private.{totals_of}
 use Rattle.valuation.proofs.AnswerTests.{not-zero}
 use Rattle.valuation.proofs.ReserveLaws.{reserve-passed}
 use Rattle.valuation.specs.LimitAnswers.{limit_by_number}

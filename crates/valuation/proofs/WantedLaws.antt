@@ -10,7 +10,7 @@ use lib.IntN.{ℤ, pos, negsuc}
 use Rattle.basics.proofs.Tests.{tests, by, is-pick}
 use Rattle.valuation.specs.Factor.{IsSmallest, smallest, positive, z_reaches, credibility, factor_of, factors_of}
 use Rattle.valuation.specs.WantedCount.{reaches_wanted, good_group, wanted_in}
-use Rattle.valuation.specs.Private.{first_reaching}
+use Rattle.valuation.specs.design.Private.{first_reaching}
 use Rattle.valuation.proofs.Laws.{Rises, smallest-is, smallest-one, smallest-at, t-rises}
 use Rattle.std.specs.Prelude.{Err, Ok}
 

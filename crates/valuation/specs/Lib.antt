@@ -1,4 +1,4 @@
--- What the valuation layer means: document 01's section Valuation, and the limit on reserves and the wanted count of document 02. `Private` has what only private functions' contracts cite.
+-- What the valuation layer means: document 01's section Valuation, and the limit on reserves and the wanted count of document 02.
 pub mod Factor
 pub mod BestNumbers
 pub mod Rate
@@ -8,6 +8,6 @@ pub mod LimitAnswers
 pub mod ReserveLimit
 pub mod WantedCount
 pub mod StudyFactor
-pub mod DefinitionChange
+pub mod ChangeOfDefinition
 pub mod Example
-pub mod Private
+pub mod design

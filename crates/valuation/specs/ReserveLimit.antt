@@ -75,7 +75,7 @@ limit_of rates list t count v =
     (record { refused = limit_check rates list v; t = 0 ∷ 0 ∷ 0 ∷ 0 ∷ 0 ∷ []; given = float 0; replaced = float 0 })
 
 -- Of every call that is not refused: no total is a NaN (a NaN is not at most itself), and the total of the set returned is never below the
--- replaced one's. `proofs/Limits.antt` proves it
+-- replaced one's. `proofs/ReserveLimit.antt` proves it
 pub record ReserveLimits (rates list t : List ℕ) (count : ℕ) (v : Float) : Type 0 where
   pub given_number : le (limit_of rates list t count v).given (limit_of rates list t count v).given ≡ true
   pub replaced_number : le (limit_of rates list t count v).replaced (limit_of rates list t count v).replaced ≡ true

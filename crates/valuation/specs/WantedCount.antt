@@ -33,7 +33,7 @@ abbrev pub IsWanted : ℕ → ℤ → ℕ → ℕ → Type 0
 IsWanted g e wanted c = (c ≤ most_claims) × Reaches g e wanted c × ((k : ℕ) → k < c → FallsShort g e wanted k)
 
 -- A count is answered exactly if the group is good, T of it is at least the wanted one and T of every smaller count is less; 19 exactly if the
--- group is good and T of every count up to 500,000 is less; 12 exactly if the group is bad. `proofs/Wanted.antt` proves it
+-- group is good and T of every count up to 500,000 is less; 12 exactly if the group is bad. `proofs/WantedCount.antt` proves it
 pub record WantedCounts (g : ℕ) (e : ℤ) (wanted : ℕ) : Type 0 where
   pub count : (c : ℕ) → wanted_in g e wanted ≡ Ok c → (good_group g ≡ true) × IsWanted g e wanted c
   pub count_is : (c : ℕ) → good_group g ≡ true → IsWanted g e wanted c → wanted_in g e wanted ≡ Ok c

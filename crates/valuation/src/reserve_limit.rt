@@ -3,7 +3,7 @@ ghost use Rattle.std.specs.Prelude.{◌≡◌, ◌+◌, ◌<◌, Ok};
 ghost use Rattle.basics.specs.Refused.{numbered, number_of};
 ghost use Rattle.valuation.specs.LimitAnswers.{limit_by_number};
 ghost use Rattle.valuation.specs.ReserveLimit.{claims_open_in, replaced_t, limit_of};
-ghost use Rattle.valuation.specs.Private.{handed_on, totals_of};
+ghost use Rattle.valuation.specs.design.Private.{handed_on, totals_of};
 
 use crate::reserve_factor::{CheckedMonths, reserve_factor};
 use crate::{Limit, Reserve};

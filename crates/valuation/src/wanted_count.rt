@@ -4,7 +4,7 @@ ghost use Rattle.basics.specs.Limits.{most_claims};
 ghost use Rattle.basics.specs.Refused.{numbered};
 ghost use Rattle.valuation.specs.Factor.{credibility};
 ghost use Rattle.valuation.specs.WantedCount.{reaches_wanted, wanted_in};
-ghost use Rattle.valuation.specs.Private.{first_reaching};
+ghost use Rattle.valuation.specs.design.Private.{first_reaching};
 
 use crate::factor::{credibility_of, is_group, margin_of, positive_part, t_of};
 use basics::limits::MOST_CLAIMS;

@@ -7,9 +7,9 @@ use borrow.Author.Tests.{le-leb, lt-leb}
 use Rattle.calendar.specs.declared.Date.{Date}
 use Rattle.calendar.specs.Calendar.{date_of, month_of, last_day_number, first_month}
 use Rattle.calendar.specs.DayAnswers.{date_at}
-use Rattle.calendar.specs.MonthTable.{entry, date_in}
+use Rattle.calendar.specs.MonthTable.{entry, date_by_table}
 use Rattle.calendar.proofs.TableRule.{table-lengths}
-use Rattle.calendar.proofs.MonthTables.{month-place, in_entry, date-in}
+use Rattle.calendar.proofs.MonthTable.{month-place, in_entry, date-in}
 use Rattle.calendar.proofs.Laws.{index-length-high, same-date}
 use Rattle.calendar.proofs.date_of_day.Goals as goal
 
@@ -29,7 +29,7 @@ parts n m s h e f =
       start = omega arith;
       year-high = omega (arith, month-place n m h e);
       day-high = omega arith;
-      date = same-date _ (date_in m n) (omega arith) (omega arith) (omega arith) ∙ date-in n m h e;
+      date = same-date _ (date_by_table m n) (omega arith) (omega arith) (omega arith) ∙ date-in n m h e;
     }
 
 pub returns-then-number-gt-LAST_DAY : goal.returns-then-number-gt-LAST_DAY

@@ -10,7 +10,7 @@ use Rattle.calendar.specs.DayAnswers.{day_of}
 use Rattle.calendar.specs.MonthTable.{entry}
 use Rattle.calendar.proofs.TableRule.{table-start}
 use Rattle.calendar.proofs.Laws.{DateBounds, date-bounds, day-last}
-use Rattle.calendar.proofs.MonthTables.{day-is}
+use Rattle.calendar.proofs.MonthTable.{day-is}
 use Rattle.calendar.proofs.day_number.Goals as goal
 
 -- its number, as the code counts: m months after January 1950 to its own, which starts on day s

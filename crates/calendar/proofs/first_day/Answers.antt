@@ -4,7 +4,7 @@ use mathlib.Core.Path.{sym, ◌∙◌}
 use native.Mathlib.Omega.{arith}
 use Rattle.calendar.specs.DayAnswers.{first_day}
 use Rattle.calendar.proofs.TableRule.{table-start}
-use Rattle.calendar.proofs.MonthTables.{month-bounds, first-is}
+use Rattle.calendar.proofs.MonthTable.{month-bounds, first-is}
 use Rattle.calendar.proofs.first_day.Goals as goal
 
 pub returns-then-not-is_month : goal.returns-then-not-is_month

@@ -9,7 +9,7 @@ use Rattle.calendar.specs.DayAnswers.{last_day}
 use Rattle.calendar.specs.MonthTable.{entry}
 use Rattle.calendar.proofs.TableRule.{table-start}
 use Rattle.calendar.proofs.Laws.{month-step, index-length-low, end-month}
-use Rattle.calendar.proofs.MonthTables.{month-bounds, last-is, end-length}
+use Rattle.calendar.proofs.MonthTable.{month-bounds, last-is, end-length}
 use Rattle.calendar.proofs.last_day.Goals as goal
 
 -- entry k is the start of the month after i, on day n

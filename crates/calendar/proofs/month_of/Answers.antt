@@ -12,7 +12,7 @@ use Rattle.month_starts.specs.MonthStarts.{month_start_days}
 use Rattle.calendar.specs.MonthTable.{entry}
 use Rattle.calendar.proofs.TableRule.{table-count, table-rule}
 use Rattle.calendar.proofs.Laws.{months-order, month-of-low, month-of-start, month-of-end}
-use Rattle.calendar.proofs.MonthTables.{month-place, in_entry}
+use Rattle.calendar.proofs.MonthTable.{month-place, in_entry}
 use Rattle.calendar.proofs.month_of.Goals as goal
 
 -- the guess at month k's first day is k or more, and at its last day k + 1 or less

@@ -7,7 +7,7 @@ use Rattle.calendar.specs.declared.Date.{Date}
 use Rattle.calendar.specs.Calendar.{date_of}
 use Rattle.claim_file.specs.BlockAnswers.{no_date}
 use Rattle.load.specs.Load.{draw}
-use Rattle.load.specs.Private.{ending_of}
+use Rattle.load.specs.design.Private.{ending_of}
 use Rattle.load.proofs.last_draws.Goals as goal
 
 module _ (closed : Bool) (bcd x fourth fifth : ℕ) (p : fourth ≡ draw x) (q : fifth ≡ draw fourth) (d : Date) (k y : ℕ) where

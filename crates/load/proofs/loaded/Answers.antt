@@ -8,7 +8,7 @@ use Rattle.claim_file.specs.BlockAnswers.{no_date}
 use Rattle.load.specs.declared.Ending.{Ending}
 use Rattle.load.specs.declared.LoadedClaim.{LoadedClaim}
 use Rattle.load.specs.Load.{draw, drawn, disability_day, load_ep, load_status, days_to_termination, load_code, load_claim}
-use Rattle.load.specs.Private.{ending_of}
+use Rattle.load.specs.design.Private.{ending_of}
 use Rattle.load.proofs.loaded.Goals as goal
 
 -- the claim of three draws and of what the last two give

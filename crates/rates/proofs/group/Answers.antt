@@ -3,7 +3,7 @@ use Prim.Native.Nat.{ℕ, ◌+◌, ◌≤◌, ◌<◌}
 use mathlib.Core.Path.{◌≡◌, ◌∙◌}
 use native.Mathlib.Omega.{arith}
 use borrow.Author.Tests.{lt-ltb, le-ltb}
-use Rattle.rates.specs.Private.{one_above}
+use Rattle.rates.specs.design.Private.{one_above}
 use Rattle.rates.proofs.Laws.{by-group}
 use Rattle.rates.proofs.group.Goals as goal
 

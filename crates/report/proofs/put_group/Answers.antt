@@ -6,7 +6,7 @@ use mathlib.Core.List.{List}
 use lib.IntN.{ℤ}
 use Rattle.valuation.specs.StudyFactor.{study_factor}
 use Rattle.report.specs.Text.{number_text, factor_column, group_line}
-use Rattle.report.specs.Private.{Put}
+use Rattle.report.specs.design.Private.{Put}
 use Rattle.report.proofs.Texts.{and_then, renamed}
 use Rattle.report.proofs.put_group.Goals as goal
 

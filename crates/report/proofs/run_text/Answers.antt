@@ -5,10 +5,10 @@ use native.Mathlib.Omega.{arith}
 use borrow.Rule.Slice.PartMut.{put_mid}
 use lib.ListN.{length}
 use Rattle.claim_file.specs.Runs.{FileRun}
-use Rattle.claim_file.specs.LentRuns.{run_with}
+use Rattle.claim_file.specs.design.LentRuns.{with_sums}
 use Rattle.report.specs.Text.{run_text, run_line}
-use Rattle.report.specs.Private.{Put}
-use Rattle.report.proofs.Lines.{short, long}
+use Rattle.report.specs.design.Private.{Put}
+use Rattle.report.proofs.RunLines.{short, long}
 use Rattle.report.proofs.Texts.{renamed, length-kept}
 use Rattle.report.proofs.TextLines.{no_lines, all_lines, line-put, lines_more}
 use Rattle.report.proofs.run_text.Goals as goal
@@ -20,12 +20,12 @@ returns-then-text-lt1200 c =
 
 pub loop-number-init : goal.loop-number-init
 loop-number-init c =
-    let run_of : FileRun = run_with c.args.run c.args.sums.now in
+    let run_of : FileRun = with_sums c.args.run c.args.sums.now in
     (omega arith, no_lines run_of c.args.text.now)
 
 pub overflow_add-at : goal.overflow_add-at
 overflow_add-at c =
-    let run_of : FileRun = run_with c.args.run c.args.sums.now in
+    let run_of : FileRun = with_sums c.args.run c.args.sums.now in
     let room : c.loop-number.at + 200 ≤ length c.loop-number.text = let p = c.loop-number.invariant.1 in
     omega (arith, p.behind, p.within, length-kept p, c.if-text-lt1200.false, c.loop-number-test.true) in
     let put-so : Put 200 c.loop-number.text c.loop-number.at (run_line run_of c.loop-number.number) (put_mid c.loop-number.at (c.loop-number.at + 200 - c.loop-number.at) c.loop-number.text c.run_line-at.new.line) (c.loop-number.at + c.run_line-at.result) = line-put c.loop-number.text (run_line run_of c.loop-number.number) c.run_line-at.new.line c.loop-number.at c.run_line-at.result room c.run_line-at.auto.line (c.run_line-at.ensures.value, (c.run_line-at.ensures.line_after, c.run_line-at.ensures.prefix_len)) in
@@ -34,7 +34,7 @@ overflow_add-at c =
 
 pub loop-number-preserved : goal.loop-number-preserved
 loop-number-preserved c =
-    let run_of : FileRun = run_with c.args.run c.args.sums.now in
+    let run_of : FileRun = with_sums c.args.run c.args.sums.now in
     let room : c.loop-number.at + 200 ≤ length c.loop-number.text = let p = c.loop-number.invariant.1 in
     omega (arith, p.behind, p.within, length-kept p, c.if-text-lt1200.false, c.loop-number-test.true) in
     let put-so : Put 200 c.loop-number.text c.loop-number.at (run_line run_of c.loop-number.number) (put_mid c.loop-number.at (c.loop-number.at + 200 - c.loop-number.at) c.loop-number.text c.run_line-at.new.line) (c.loop-number.at + c.run_line-at.result) = line-put c.loop-number.text (run_line run_of c.loop-number.number) c.run_line-at.new.line c.loop-number.at c.run_line-at.result room c.run_line-at.auto.line (c.run_line-at.ensures.value, (c.run_line-at.ensures.line_after, c.run_line-at.ensures.prefix_len)) in (
@@ -44,7 +44,7 @@ loop-number-preserved c =
 
 pub returns : goal.returns
 returns c =
-    let run_of : FileRun = run_with c.args.run c.args.sums.now in
+    let run_of : FileRun = with_sums c.args.run c.args.sums.now in
     let e : c.loop-number.number ≡ 6 = omega arith in
     let p = rw e at c.loop-number.invariant.1 in let rest = long 1200 c.args.text.now (run_text run_of) _ _ 1200 (omega arith) (omega arith) (renamed p (all_lines run_of)) in
     record { value = rest.0; text_after = rest.1.0; prefix_len = rest.1.1 }

@@ -1,7 +1,7 @@
 -- `reserve_test::limit` is safe: no answer carries a NaN, so each total has bits. Assumes nothing.
 use Rattle.std.specs.Prelude.{Ok, false, is_nan}
 use mathlib.Core.Path.{◌≡◌, ap, ◌∙◌}
-use Rattle.valuation.proofs.Limits.{answer-numbers}
+use Rattle.valuation.proofs.ReserveLimit.{answer-numbers}
 use Rattle.valuation.specs.LimitAnswers.{LimitAnswer, limit_by_number}
 use Rattle.valuation.specs.declared.Limit.{Limit}
 use Rattle.reserve_test.proofs.limit.Goals as goal

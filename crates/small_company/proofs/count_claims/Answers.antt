@@ -8,7 +8,7 @@ use Rattle.basics.specs.Refused.{numbered}
 use Rattle.claim_months.specs.Claim.{claim_check}
 use Rattle.claim_file.specs.Record.{claim_from}
 use Rattle.claim_months.proofs.Sound.{sound}
-use Rattle.small_company.specs.Private.{with_one}
+use Rattle.small_company.specs.design.Private.{with_one}
 use Rattle.small_company.proofs.Listing.{list-padded, no_record, found}
 use Rattle.small_company.proofs.Refusals.{passed_on, from-none}
 use Rattle.small_company.proofs.Counting.{begins, is-padded, refused, walks-on, ends}

@@ -1,7 +1,7 @@
 -- `small_company::is_exempt` meets its contract: each count by its own limit. Assumes nothing.
 use borrow.Author.Tests.{lt-ltb, le-ltb}
 use Rattle.basics.proofs.Tests.{tests}
-use Rattle.small_company.specs.Private.{exempt_by}
+use Rattle.small_company.specs.design.Private.{exempt_by}
 use Rattle.small_company.proofs.is_exempt.Goals as goal
 
 pub returns-then-counts-lt50 : goal.returns-then-counts-lt50

@@ -1,6 +1,6 @@
 -- `small_company::judged` meets its contract: both counts decide. Assumes nothing.
 use Rattle.basics.specs.Tables.{table}
-use Rattle.small_company.specs.Private.{judged_of}
+use Rattle.small_company.specs.design.Private.{judged_of}
 use Rattle.small_company.proofs.judged.Goals as goal
 
 pub returns-then-is_exempt : goal.returns-then-is_exempt

@@ -5,7 +5,7 @@ use mathlib.Core.Bool.{true}
 use Rattle.calendar.specs.Calendar.{day_number}
 use Rattle.small_company.specs.Company.{company_by_number}
 use Rattle.small_company.specs.SmallCompany.{list_sound, listed_claims}
-use Rattle.small_company.specs.Private.{counted_of}
+use Rattle.small_company.specs.design.Private.{counted_of}
 use Rattle.small_company.proofs.Days.{day-known, day-unknown}
 use Rattle.small_company.proofs.Refusals.{passed_on, from-none}
 use Rattle.small_company.proofs.Answers.{no-date, no-list, claim-refused, judged}

@@ -4,7 +4,7 @@ use Rattle.std.proofs.Common.{◌≡◌, ◌<◌, length, sym, ap, ◌∙◌, ar
 use mathlib.Core.Path.{subst⁻¹}
 use Rattle.claim_months.specs.declared.Claim.{Claim}
 use Rattle.claim_file.specs.Block.{block_claim}
-use Rattle.by_duration.specs.Private.{Fit, raised_by, checked_figure}
+use Rattle.by_duration.specs.design.Private.{Fit, raised_by, checked_figure}
 use Rattle.by_duration.proofs.Raised.{raised-length, raised-fit}
 use Rattle.by_duration.proofs.RowsTaken.{same-record, place-more, places-end}
 use Rattle.by_duration.proofs.run.add_block.Goals as goal

@@ -1,6 +1,6 @@
 use Rattle.std.proofs.Common.{◌≡◌, ◌-◌, ◌*◌, length}
 use Rattle.claim_file.specs.Files.{claims_of_block}
-use Rattle.by_duration.specs.Private.{Fit, raised_by, checked_sum}
+use Rattle.by_duration.specs.design.Private.{Fit, raised_by, checked_sum}
 use Rattle.by_duration.proofs.run.add_block.Given as goal
 
 abbrev pub invariant-loop-place : goal.invariant-loop-place

@@ -4,9 +4,9 @@ use Rattle.std.proofs.Common.{◌≡◌, ◌+◌, ◌-◌, length, sym, ap, ◌�
 use mathlib.Core.Path.{subst⁻¹}
 use Rattle.basics.specs.Tables.{table}
 use Rattle.study.specs.Sums.{none}
-use Rattle.claim_file.specs.LentRuns.{run_with}
+use Rattle.claim_file.specs.design.LentRuns.{with_sums}
 use Rattle.claim_file.proofs.Runs.{part-is, rest-is}
-use Rattle.by_duration.specs.Private.{Fit}
+use Rattle.by_duration.specs.design.Private.{Fit}
 use Rattle.by_duration.proofs.Raised.{raised-length, raised-fit}
 use Rattle.by_duration.proofs.RowsTaken.{taken-grows, block-records, goes-on, going-first, going-last, run-last}
 use Rattle.by_duration.proofs.run.add_file.Goals as goal
@@ -16,21 +16,21 @@ unfolding none table
 loop-at-init c = (omega arith, c.requires.rows_len, c.requires.fit, going-first c.args.kind c.args.n c.args.table.now _ c.args.file.now c.args.rows.now c.start-run.ensures)
 
 pub overflow_sub-run : goal.overflow_sub-run
-unfolding run_with
+unfolding with_sums
 overflow_sub-run c =
     let l = c.loop-at in
     let d = length-drop l.at c.args.file.now in
     taken-grows _ _ _ _ _ _ _ _ _ l.invariant.3 (omega (arith, c.loop-at-test.true)) _ (part-is c.args.file.now l.at (l.at + c.min.result) (omega (arith, c.min.ensures))) _ c.feed_lent-run.ensures
 
 pub add_block-requires-clause-records : goal.add_block-requires-clause-records
-unfolding run_with
+unfolding with_sums
 add_block-requires-clause-records c =
     let l = c.loop-at in
     let d = length-drop l.at c.args.file.now in
     block-records _ _ _ _ _ _ _ _ _ l.invariant.3 (omega (arith, c.loop-at-test.true)) _ (part-is c.args.file.now l.at (l.at + c.min.result) (omega (arith, c.min.ensures))) _ c.feed_lent-run.ensures
 
 pub loop-at-preserved : goal.loop-at-preserved
-unfolding run_with
+unfolding with_sums
 loop-at-preserved c =
     let l = c.loop-at in
     let d = length-drop l.at c.args.file.now in

@@ -1,6 +1,6 @@
 use Prim.Native.Nat.{◌*◌, ◌-◌, ◌≤◌}
 use mathlib.Core.Path.{◌≡◌}
-use Rattle.claim_file.specs.Private.{columns_sum}
+use Rattle.claim_file.specs.design.Private.{columns_sum}
 use Rattle.claim_file.proofs.check_sum.columns_sum.Given as goal
 
 abbrev pub invariant-loop-column : goal.invariant-loop-column

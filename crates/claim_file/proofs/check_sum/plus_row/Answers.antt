@@ -7,7 +7,7 @@ use native.Mathlib.Omega.{arith}
 use lib.ListN.{get_or}
 use Rattle.basics.specs.Tables.{all_at_most}
 use Rattle.basics.proofs.Tables.{list-table, at-most-at}
-use Rattle.claim_file.specs.Private.{plus_row}
+use Rattle.claim_file.specs.design.Private.{plus_row}
 use Rattle.claim_file.proofs.CheckColumns.{plus-place}
 use Rattle.claim_file.proofs.check_sum.plus_row.Goals as goal
 

@@ -6,7 +6,7 @@ use lib.ListN.{get_or, length-set}
 use Rattle.basics.specs.Tables.{all_at_most}
 use Rattle.basics.proofs.Tables.{filled_more, list-table}
 use Rattle.claim_file.specs.Bytes.{byte_at}
-use Rattle.claim_file.specs.Private.{row_at}
+use Rattle.claim_file.specs.design.Private.{row_at}
 use Rattle.claim_file.proofs.CheckColumns.{at-most-set}
 use Rattle.claim_file.proofs.check_sum.row_at.Goals as goal
 

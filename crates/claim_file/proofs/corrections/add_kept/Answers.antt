@@ -15,14 +15,15 @@ use Rattle.basics.proofs.Tables.{at-most-list}
 use Rattle.study.specs.declared.Study.{Study}
 use Rattle.study.specs.Answers.{Answer}
 use Rattle.study.specs.Sums.{within}
-use Rattle.study.specs.PreparedAdding.{lent_study, room_for, added_to_lent}
-use Rattle.study.proofs.EitherTable.{lent-kept, lent-refused, lent-taken, lent-room, lent-spare}
-use Rattle.study.proofs.LentSums.{spare-told}
+use Rattle.study.specs.design.PreparedAdding.{lent_study}
+use Rattle.study.specs.design.LentAdding.{room_for, added_to_lent}
+use Rattle.study.proofs.SameAdding.{lent-kept, lent-refused, lent-taken, lent-room, lent-spare}
+use Rattle.study.proofs.LentAdding.{spare-told}
 use Rattle.claim_file.specs.Bytes.{byte_at}
 use Rattle.claim_file.specs.Block.{claim_count, block_claim, block_sound}
 use Rattle.claim_file.specs.Run.{Adding}
 use Rattle.claim_file.specs.Corrections.{PlacedClaim, file_records, sound_all, has_number}
-use Rattle.claim_file.specs.PreparedRuns.{adding_with}
+use Rattle.claim_file.specs.design.PreparedRuns.{adding_with}
 use Rattle.claim_file.proofs.Stops.{passed}
 use Rattle.claim_file.proofs.Runs.{Sound, sound}
 use Rattle.claim_file.proofs.Slots.{block_of, block-byte}
@@ -95,12 +96,12 @@ module _ (c : In-loop-place) where
       let h : c.loop-place.next < length (file_records file) = within_all _ _ _ _ left-here.behind in
       omega (arith, h, c.requires.file_len_bound)
 
--- whether it is superseded
+-- whether it is struck
 marked-so : (c : After-is_marked)
     → c.is_marked.result ≡ has_number (block_claim (cut c.args.file.now c.loop-block.block) c.loop-place.place).number (left_in c.args.file.now c.loop-block.block (c.loop-place.place + 1))
 marked-so c =
     let l = left-here (goal.at.After-is_marked c).In-loop-place in
-    c.is_marked.ensures ∙ marked-later _ _ _ _ l.behind _ c.requires.marks_superseded
+    c.is_marked.ensures ∙ marked-later _ _ _ _ l.behind _ c.requires.marks_struck
 
 -- a claim that was handed to the sums: the answer, and the sums afterwards
 module _ (c : After-add_to) where

@@ -2,9 +2,10 @@ use Prim.Native.Nat.{◌-◌, ◌/◌, ◌≤◌}
 use mathlib.Core.Path.{◌≡◌}
 use mathlib.Core.Bool.{true}
 use lib.ListN.{length}
-use Rattle.study.specs.PreparedAdding.{lent_study, room_for}
+use Rattle.study.specs.design.PreparedAdding.{lent_study}
+use Rattle.study.specs.design.LentAdding.{room_for}
 use Rattle.claim_file.specs.Corrections.{file_records}
-use Rattle.claim_file.specs.PreparedRuns.{adding_with}
+use Rattle.claim_file.specs.design.PreparedRuns.{adding_with}
 use Rattle.claim_file.proofs.CorrectedRuns.{Left, go, later_records, block_left}
 use Rattle.claim_file.proofs.corrections.add_kept.Given as goal
 

@@ -9,11 +9,11 @@ use Rattle.basics.proofs.Refused.{numbered-from-1}
 use Rattle.study.specs.Answers.{Answer, by_number}
 use Rattle.study.specs.Study.{opened}
 use Rattle.claim_file.specs.Corrections.{file_records, sound_all, last_ones, records_added}
-use Rattle.claim_file.specs.PreparedRuns.{adding_with}
+use Rattle.claim_file.specs.design.PreparedRuns.{adding_with}
 use Rattle.claim_file.proofs.Stops.{none-in}
 use Rattle.claim_file.proofs.Marking.{zeros-zero}
 use Rattle.claim_file.proofs.RunRecords.{window_answer, window_refused}
-use Rattle.claim_file.proofs.Struck.{corrected-added, corrected-refused}
+use Rattle.claim_file.proofs.StruckRuns.{corrected-added, corrected-refused}
 use Rattle.claim_file.proofs.CorrectedRuns.{AllSound, sound-blocks-so, corrected-unsound, corrected-many}
 use Rattle.claim_file.proofs.corrections.run_corrected_with.Goals as goal
 use Rattle.claim_file.proofs.corrections.run_corrected_with.Goals.{Else-sound-file, After-open-answer}
@@ -71,15 +71,15 @@ returns-then-record_count-gt-MOST_RECORDS c =
     (corrected-many (adding_with c.args.kind c.args.table.now) c.args.file.now (all_so at.Else-sound-file) (sym (number-so at.After-open-answer) ∙ none-in c.open-answer.result.refused c.in_default.not-Some)
     (omega (arith, c.record_count.ensures, c.if-record_count-gt-MOST_RECORDS.true)))
 
-pub mark_superseded-requires : goal.mark_superseded-requires
-mark_superseded-requires c =
+pub mark_struck-requires : goal.mark_struck-requires
+mark_struck-requires c =
     let few-so : length (file_records c.args.file.now) ≤ 60000 = omega (arith, c.record_count.ensures, c.if-record_count-gt-MOST_RECORDS.false) in
-    record { file_value = all_so (goal.at.mark_superseded-requires c).Else-sound-file; file_len_bound = few-so; all_zero = zeros-zero 7500 }
+    record { file_value = all_so (goal.at.mark_struck-requires c).Else-sound-file; file_len_bound = few-so; all_zero = zeros-zero 7500 }
 
 pub add_kept-requires : goal.add_kept-requires
 add_kept-requires c =
     let few-so : length (file_records c.args.file.now) ≤ 60000 = omega (arith, c.record_count.ensures, c.if-record_count-gt-MOST_RECORDS.false) in
-    record { file_value = all_so (goal.at.add_kept-requires c).Else-sound-file; file_len_bound = few-so; marks_superseded = c.mark_superseded.ensures }
+    record { file_value = all_so (goal.at.add_kept-requires c).Else-sound-file; file_len_bound = few-so; marks_struck = c.mark_struck.ensures }
 
 pub returns : goal.returns
 returns c =

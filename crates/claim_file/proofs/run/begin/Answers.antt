@@ -10,27 +10,27 @@ use native.Mathlib.Omega.{arith}
 use Rattle.std.proofs.lemmas.Grind.{common_steps}
 use Rattle.study.specs.Study.{fresh, first_day_alone, opened, opened_with}
 use Rattle.study.specs.Sums.{none}
-use Rattle.study.specs.PreparedAdding.{lent_study}
+use Rattle.study.specs.design.PreparedAdding.{lent_study}
 use Rattle.claim_file.specs.Runs.{FileRun}
 use Rattle.claim_file.specs.declared.LentRun.{LentRun}
 use Rattle.claim_file.specs.Block.{block_sound}
 use Rattle.claim_file.specs.Run.{started, begun, stops}
-use Rattle.claim_file.specs.Private.{block_begun}
-use Rattle.claim_file.specs.LentRuns.{run_with}
+use Rattle.claim_file.specs.design.Private.{block_begun}
+use Rattle.claim_file.specs.design.LentRuns.{with_sums}
 use Rattle.claim_file.proofs.LentRuns.{stops-with, begun-no-window}
 use Rattle.claim_file.proofs.run.begin.Goals as goal
 
 pub returns-in-Ok : goal.returns-in-Ok
-unfolding run_with block_begun begun stops opened opened_with fresh
+unfolding with_sums block_begun begun stops opened opened_with fresh
 returns-in-Ok c = grind (arith, common_steps)
 
 pub returns-in-Err : goal.returns-in-Err
-unfolding run_with fresh stops started
+unfolding with_sums fresh stops started
 returns-in-Err c =
-    let run_of : FileRun = run_with c.args.run c.args.sums.now in
+    let run_of : FileRun = with_sums c.args.run c.args.sums.now in
     let sound-so : block_sound c.args.run.due c.args.bytes.now ≡ true = sym c.is_sound.ensures ∙ c.if-not-is_sound.false in
     let n = c.in-Err in
-    ap (λ (r : LentRun). run_with r c.clear.new.sums) c.stopped-in-Err.ensures
+    ap (λ (r : LentRun). with_sums r c.clear.new.sums) c.stopped-in-Err.ensures
     ∙ stops-with c.start.result none c.clear.new.sums 0 n.refusal 0
     ∙ ap (λ (r : FileRun). stops r (lent_study r.study.window 0 c.clear.new.sums) (number_of n.refusal) 0) c.start.ensures
     ∙ ap (λ (s : List ℤ). stops started (lent_study first_day_alone 0 s) (number_of n.refusal) 0) c.clear.ensures

@@ -18,17 +18,18 @@ use Rattle.basics.proofs.Tables.{at-most-list}
 use Rattle.study.specs.declared.Study.{Study}
 use Rattle.study.specs.Answers.{Answer}
 use Rattle.study.specs.Sums.{within}
-use Rattle.study.specs.PreparedAdding.{lent_study, room_for, added_to_lent}
-use Rattle.study.proofs.EitherTable.{lent-kept, lent-refused, lent-taken, lent-room, lent-spare}
-use Rattle.study.proofs.LentSums.{spare-told}
+use Rattle.study.specs.design.PreparedAdding.{lent_study}
+use Rattle.study.specs.design.LentAdding.{room_for, added_to_lent}
+use Rattle.study.proofs.SameAdding.{lent-kept, lent-refused, lent-taken, lent-room, lent-spare}
+use Rattle.study.proofs.LentAdding.{spare-told}
 use Rattle.claim_file.specs.Runs.{FileRun}
 use Rattle.claim_file.specs.declared.LentRun.{LentRun}
 use Rattle.claim_file.specs.Bytes.{byte_at}
 use Rattle.claim_file.specs.Block.{block_claim, claim_count}
 use Rattle.claim_file.specs.Run.{Adding, stops, claims_from, fed}
-use Rattle.claim_file.specs.PreparedRuns.{adding_with}
-use Rattle.claim_file.specs.LentRuns.{run_with}
-use Rattle.claim_file.specs.Private.{lent_stops, lent_goes_on}
+use Rattle.claim_file.specs.design.PreparedRuns.{adding_with}
+use Rattle.claim_file.specs.design.LentRuns.{with_sums}
+use Rattle.claim_file.specs.design.Private.{lent_stops, lent_goes_on}
 use Rattle.claim_file.proofs.Stops.{stop-number, no-stop-number, passed}
 use Rattle.claim_file.proofs.Runs.{Sound, sound, sound-due, part-is, rest-is, fed-refused, fed-none, stops-refused, claims-start, claims-on, claims-off, claims-end}
 use Rattle.claim_file.proofs.LentRuns.{begun-claims-sound, fed-stops, fed-claims, stops-with, goes-on-with}
@@ -38,7 +39,7 @@ use Rattle.claim_file.proofs.run.feed_lent.Goals.{Else-is_some-2, After-add_to}
 -- a block that was begun and not refused
 module _ (c : Else-is_some-2) where
   abbrev run : FileRun
-  run = run_with c.file.run c.file.sums
+  run = with_sums c.file.run c.file.sums
 
   abbrev add : Adding
   add = adding_with c.args.kind c.args.table.now
@@ -50,14 +51,14 @@ module _ (c : Else-is_some-2) where
   part = take (c.block_end-end.result - c.file.at) rest
 
   abbrev begun : FileRun
-  begun = run_with c.begin-run.result c.begin-run.new.sums
+  begun = with_sums c.begin-run.result c.begin-run.new.sums
 
   free : begun.refused ≡ 0
-  unfolding run_with
+  unfolding with_sums
   free = no-stop-number c.begin-run.result.stop (sym c.is_some-in-file.ensures ∙ c.if-is_some-2.false)
 
   sound-so : Sound c.begin-run.result.due part
-  unfolding run_with
+  unfolding with_sums
   sound-so = sound _ _ (begun-claims-sound run add part begun c.begin-run.ensures free)
 
   place-low : (place : ℕ) → place < get_or part 2 0 → place < 15
@@ -79,7 +80,7 @@ module _ (c : Else-is_some-2) where
       → claims_from begun begun.study add part 0 (claim_count part)
       ≡ claims_from begun (lent_study c.begin-run.result.window.window taken sums) add part place (claim_count part - place)
       → fed run add rest ≡ fed (claims_from begun (lent_study c.begin-run.result.window.window taken sums) add part place (claim_count part - place)) add (drop 512 rest)
-  unfolding run_with
+  unfolding with_sums
   left-so taken sums place e =
       let d = length-drop c.file.at c.args.bytes.now in
       fed-claims run add rest part (part-is _ _ _ c.block_end-end.ensures) (no-stop-number c.file.run.stop c.file.invariant.1) (omega (arith, c.file-test.true)) begun c.begin-run.ensures free
@@ -134,10 +135,10 @@ module _ (c : After-add_to) where
       ∙ ap (adding_with c.args.kind c.args.table.now so_far) c.claim_at-claim.ensures
 
 pub returns-then-is_some : goal.returns-then-is_some
-unfolding run_with
+unfolding with_sums
 returns-then-is_some c =
     let stopped-so = stop-number c.args.from.stop (sym c.is_some.ensures ∙ c.if-is_some.true) in
-    sym (fed-refused (run_with c.args.from c.args.sums.now) (adding_with c.args.kind c.args.table.now) c.args.bytes.now stopped-so)
+    sym (fed-refused (with_sums c.args.from c.args.sums.now) (adding_with c.args.kind c.args.table.now) c.args.bytes.now stopped-so)
 
 pub file-init : goal.file-init
 file-init c = (omega arith, sym c.is_some.ensures ∙ c.if-is_some.false, refl)
@@ -146,14 +147,14 @@ pub begin-run-requires : goal.begin-run-requires
 begin-run-requires c = c.file.invariant.1
 
 pub returns-then-is_some-2 : goal.returns-then-is_some-2
-unfolding run_with
+unfolding with_sums
 returns-then-is_some-2 c =
     let rest : List ℕ = drop c.file.at c.args.bytes.now in
     let some_left : 0 < length rest = let d = length-drop c.file.at c.args.bytes.now in omega (arith, c.file-test.true) in
     sym
     (c.file.invariant.2
-    ∙ fed-stops (run_with c.file.run c.file.sums) (adding_with c.args.kind c.args.table.now) rest _ (part-is _ _ _ c.block_end-end.ensures) (no-stop-number c.file.run.stop c.file.invariant.1) some_left
-    (run_with c.begin-run.result c.begin-run.new.sums) c.begin-run.ensures (stop-number c.begin-run.result.stop (sym c.is_some-in-file.ensures ∙ c.if-is_some-2.true)))
+    ∙ fed-stops (with_sums c.file.run c.file.sums) (adding_with c.args.kind c.args.table.now) rest _ (part-is _ _ _ c.block_end-end.ensures) (no-stop-number c.file.run.stop c.file.invariant.1) some_left
+    (with_sums c.begin-run.result c.begin-run.new.sums) c.begin-run.ensures (stop-number c.begin-run.result.stop (sym c.is_some-in-file.ensures ∙ c.if-is_some-2.true)))
 
 pub bounds-part-2 : goal.bounds-part-2
 bounds-part-2 c = let s = (sound-so (goal.at.bounds-part-2 c).Else-is_some-2).length-so in omega arith
@@ -184,7 +185,7 @@ loop-place-preserved c =
     )
 
 pub returns-in-Err : goal.returns-in-Err
-unfolding run_with claim_count byte_at
+unfolding with_sums claim_count byte_at
 returns-in-Err c =
     let b = (goal.at.returns-in-Err c).Else-is_some-2 in
     let m = (goal.at.returns-in-Err c).After-add_to in
@@ -193,7 +194,7 @@ returns-in-Err c =
     let n = number_of refusal in
     let is-so : number m ≡ n = ap number_refused c.in-Err.is in
     let h : number m ≡ 0 → ⊥ = λ e. absurd (omega (arith, e, is-so, numbered-from-1 refusal)) in
-    ap (λ (r : LentRun). run_with r (after m)) (c.stopped-run.ensures ∙ ap (λ (r : LentRun). lent_stops r l.taken refusal (l.place + 1)) l.invariant.0)
+    ap (λ (r : LentRun). with_sums r (after m)) (c.stopped-run.ensures ∙ ap (λ (r : LentRun). lent_stops r l.taken refusal (l.place + 1)) l.invariant.0)
     ∙ stops-with c.begin-run.result c.begin-run.new.sums (after m) l.taken refusal (l.place + 1)
     ∙ ap (λ (x : List ℤ). stops (begun b) (lent_study c.begin-run.result.window.window l.taken x) n (l.place + 1)) (kept-so m h)
     ∙ ap (λ (k : ℕ). stops (begun b) (lent_study c.begin-run.result.window.window l.taken l.sums) k (l.place + 1)) (sym is-so)
@@ -211,7 +212,7 @@ pub file-smaller : goal.file-smaller
 file-smaller c = omega (arith, c.block_end-end.ensures, c.file-test.true)
 
 pub file-preserved : goal.file-preserved
-unfolding run_with claim_count byte_at lent_goes_on
+unfolding with_sums claim_count byte_at lent_goes_on
 file-preserved c =
     let b = (goal.at.file-preserved c).Else-is_some-2 in
     let l = c.loop-place in
@@ -223,11 +224,11 @@ file-preserved c =
           ∙ left-so b l.taken l.sums l.place l.invariant.3
           ∙ ap (λ (r : FileRun). fed r (add b) (drop 512 (rest b)))
           (claims-end _ (lent_study c.begin-run.result.window.window l.taken l.sums) _ _ _ _ (omega arith)
-          ∙ sym (ap (λ (r : LentRun). run_with r l.sums) on ∙ goes-on-with c.begin-run.result c.begin-run.new.sums l.sums l.taken))
-          ∙ ap (fed (run_with c.continued-run.result l.sums) (add b)) (rest-is c.args.bytes.now c.file.at c.block_end-end.result c.file.invariant.0 e),
+          ∙ sym (ap (λ (r : LentRun). with_sums r l.sums) on ∙ goes-on-with c.begin-run.result c.begin-run.new.sums l.sums l.taken))
+          ∙ ap (fed (with_sums c.continued-run.result l.sums) (add b)) (rest-is c.args.bytes.now c.file.at c.block_end-end.result c.file.invariant.0 e),
     )
 
 pub returns-after-file : goal.returns-after-file
 returns-after-file c =
     let d = length-drop c.file.at c.args.bytes.now in
-    sym (c.file.invariant.2 ∙ fed-none (run_with c.file.run c.file.sums) (adding_with c.args.kind c.args.table.now) (drop c.file.at c.args.bytes.now) (omega arith))
+    sym (c.file.invariant.2 ∙ fed-none (with_sums c.file.run c.file.sums) (adding_with c.args.kind c.args.table.now) (drop c.file.at c.args.bytes.now) (omega arith))

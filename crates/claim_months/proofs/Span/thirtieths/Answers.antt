@@ -14,15 +14,15 @@ small u l h k = rw (← sub_is u l) (size-sub u l 9223372036854775807 (omega ari
 
 pub overflow_sub-result : goal.overflow_sub-result
 overflow_sub-result c =
-    let u = c.upper.result.0 in
-    let l = c.lower.result.0 in
+    let u = c.through_at.result.0 in
+    let l = c.before_at.result.0 in
     rw (c.from.ensures, c.from-2.ensures) (result_fits ◌-ℤ◌ (pos u) (pos l) (omega arith) (omega arith) (small u l (omega arith) (omega arith)))
 
 pub returns : goal.returns
 unfolding span_thirtieths
 returns c =
-    let u = c.upper.result.0 in
-    let l = c.lower.result.0 in
+    let u = c.through_at.result.0 in
+    let l = c.before_at.result.0 in
     rw (c.from.ensures, c.from-2.ensures)
     (result-is ◌-ℤ◌ (pos u) (pos l) (omega arith) (omega arith) (small u l (omega arith) (omega arith)) ∙ sym (sub_is u l)
-    ∙ ap₂ sub_ℕ c.upper.ensures c.lower.ensures)
+    ∙ ap₂ sub_ℕ c.through_at.ensures c.before_at.ensures)

@@ -11,7 +11,7 @@ use Rattle.basics.proofs.Tests.{tests}
 use Rattle.claim_months.specs.declared.Claim.{Claim}
 use Rattle.claim_months.specs.declared.ClaimDays.{ClaimDays}
 use Rattle.claim_months.specs.Claim.{dates_sound, claim_check}
-use Rattle.claim_months.specs.Private.{days_of, checked_of}
+use Rattle.claim_months.specs.design.Private.{days_of, checked_of}
 use Rattle.claim_months.proofs.Picked.{unpicked}
 use Rattle.basics.proofs.Refused.{passed_on}
 use Rattle.claim_months.proofs.check.checked.Goals as goal

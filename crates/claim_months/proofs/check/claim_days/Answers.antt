@@ -11,7 +11,7 @@ use Rattle.calendar.specs.Calendar.{is_date, day_number}
 use Rattle.calendar.specs.DayAnswers.{known, day_of}
 use Rattle.claim_months.specs.declared.Claim.{Claim}
 use Rattle.claim_months.specs.Claim.{is_missing, is_closed, dates_sound}
-use Rattle.claim_months.specs.Private.{days_of}
+use Rattle.claim_months.specs.design.Private.{days_of}
 use Rattle.claim_months.proofs.Picked.{picked, unpicked}
 use Rattle.claim_months.proofs.Checked.{day-known, day-unknown}
 use Rattle.claim_months.proofs.check.claim_days.Goals as goal

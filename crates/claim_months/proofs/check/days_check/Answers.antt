@@ -13,7 +13,7 @@ use Rattle.calendar.specs.DayAnswers.{known}
 use Rattle.claim_months.specs.declared.Claim.{Claim}
 use Rattle.claim_months.specs.declared.ClaimDays.{ClaimDays}
 use Rattle.claim_months.specs.Claim.{is_closed, bcd_day, termination_day, ep, status_sound, sequence_sound, benefit_sound, ep_sound, claim_check}
-use Rattle.claim_months.specs.Private.{as_day, days_of, none_before}
+use Rattle.claim_months.specs.design.Private.{as_day, days_of, none_before}
 use Rattle.claim_months.proofs.Sound.{sequence}
 use Rattle.claim_months.proofs.check.days_check.Goals as goal
 use Rattle.std.specs.Prelude.{None}

@@ -20,7 +20,7 @@ use Rattle.claim_months.specs.declared.MonthWindow.{MonthWindow}
 use Rattle.claim_months.specs.declared.Span.{Span}
 use Rattle.claim_months.specs.Exposure.{exposed_from, exposed_to}
 use Rattle.claim_months.specs.Span.{span_of}
-use Rattle.claim_months.specs.Private.{Placed, SoundWindow, Stands, from_of, closing_within, to_at, to_of, u_at, category_at, Begins, BeginsFor, HoldsFor}
+use Rattle.claim_months.specs.design.Private.{Placed, SoundWindow, Stands, from_of, closing_within, to_at, to_of, u_at, category_at, Begins, BeginsFor, HoldsFor}
 use Rattle.claim_months.proofs.Picked.{picked}
 use Rattle.claim_months.proofs.MonthRuns.{records-none}
 use Rattle.claim_months.proofs.Spans.{first-duration}

@@ -5,7 +5,7 @@ use mathlib.Core.Path.{◌≡◌, sym, ◌∙◌}
 use native.Mathlib.Omega.{arith}
 use Rattle.std.specs.Prelude.{Option, None, Some}
 use Rattle.claim_months.specs.declared.ClaimClosing.{ClaimClosing}
-use Rattle.claim_months.specs.Private.{closing_of, u_at}
+use Rattle.claim_months.specs.design.Private.{closing_of, u_at}
 use Rattle.claim_months.proofs.exposure.last_u.Goals as goal
 
 of-closing : (o : Option ClaimClosing) (x : ClaimClosing) (l s p : ℕ) → o ≡ Some x → closing_of x s p ≡ u_at o l s p

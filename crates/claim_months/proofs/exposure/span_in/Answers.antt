@@ -12,7 +12,7 @@ use Rattle.claim_months.specs.Claim.{claim_check}
 use Rattle.claim_months.specs.Windows.{window_sound, window_check}
 use Rattle.claim_months.specs.Exposure.{month_records}
 use Rattle.claim_months.specs.Span.{span_of, exposure_check, span_in}
-use Rattle.claim_months.specs.Private.{with_months, SoundWindow, records_in}
+use Rattle.claim_months.specs.design.Private.{with_months, SoundWindow, records_in}
 use Rattle.basics.proofs.Tests.{tests}
 use Rattle.claim_months.proofs.Picked.{picked, unpicked}
 use Rattle.claim_months.proofs.Checked.{window_placed, checked-known, checked_refused}

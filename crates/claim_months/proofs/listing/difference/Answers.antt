@@ -11,16 +11,16 @@ use Rattle.claim_months.proofs.listing.difference.Goals as goal
 
 pub overflow_sub-result : goal.overflow_sub-result
 overflow_sub-result c =
-    let computed : to_z w32 (of_z w32 c.signed.result) -ℤ to_z w32 (of_z w32 c.signed-2.result) ≡ sub_ℕ c.args.upper.0 c.args.lower.0 = let a = c.args in
-    ap₂ ◌-ℤ◌ (read_back _ (pos a.upper.0) c.signed.ensures (omega arith))
-    (read_back _ (pos a.lower.0) c.signed-2.ensures (omega arith))
-    ∙ sym (sub_is a.upper.0 a.lower.0) in
-    subst⁻¹ (SFits w32) computed (small-fits _ (difference-size c.args.upper.0 c.args.lower.0 c.requires.upper_bound c.requires.lower_bound))
+    let computed : to_z w32 (of_z w32 c.signed.result) -ℤ to_z w32 (of_z w32 c.signed-2.result) ≡ sub_ℕ c.args.through.0 c.args.before.0 = let a = c.args in
+    ap₂ ◌-ℤ◌ (read_back _ (pos a.through.0) c.signed.ensures (omega arith))
+    (read_back _ (pos a.before.0) c.signed-2.ensures (omega arith))
+    ∙ sym (sub_is a.through.0 a.before.0) in
+    subst⁻¹ (SFits w32) computed (small-fits _ (difference-size c.args.through.0 c.args.before.0 c.requires.upper_bound c.requires.lower_bound))
 
 pub returns : goal.returns
 returns c =
-    let computed : to_z w32 (of_z w32 c.signed.result) -ℤ to_z w32 (of_z w32 c.signed-2.result) ≡ sub_ℕ c.args.upper.0 c.args.lower.0 = let a = c.args in
-    ap₂ ◌-ℤ◌ (read_back _ (pos a.upper.0) c.signed.ensures (omega arith))
-    (read_back _ (pos a.lower.0) c.signed-2.ensures (omega arith))
-    ∙ sym (sub_is a.upper.0 a.lower.0) in
-    read_back _ _ computed (difference-size c.args.upper.0 c.args.lower.0 c.requires.upper_bound c.requires.lower_bound)
+    let computed : to_z w32 (of_z w32 c.signed.result) -ℤ to_z w32 (of_z w32 c.signed-2.result) ≡ sub_ℕ c.args.through.0 c.args.before.0 = let a = c.args in
+    ap₂ ◌-ℤ◌ (read_back _ (pos a.through.0) c.signed.ensures (omega arith))
+    (read_back _ (pos a.before.0) c.signed-2.ensures (omega arith))
+    ∙ sym (sub_is a.through.0 a.before.0) in
+    read_back _ _ computed (difference-size c.args.through.0 c.args.before.0 c.requires.upper_bound c.requires.lower_bound)

@@ -12,7 +12,7 @@ use Rattle.claim_months.specs.declared.Claim.{Claim}
 use Rattle.claim_months.specs.declared.Span.{Span}
 use Rattle.claim_months.specs.Exposure.{MonthRecord}
 use Rattle.claim_months.specs.Listing.{rows}
-use Rattle.claim_months.specs.Private.{Stands, records_in, ListedAs}
+use Rattle.claim_months.specs.design.Private.{Stands, records_in, ListedAs}
 use Rattle.claim_months.proofs.Rows.{months-are}
 use Rattle.claim_months.proofs.listing.list_checked.Goals as goal
 use Rattle.std.specs.Prelude.{Err, Ok}

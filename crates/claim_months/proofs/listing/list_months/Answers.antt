@@ -19,7 +19,7 @@ use Rattle.claim_months.specs.Claim.{claim_check}
 use Rattle.claim_months.specs.Windows.{window_sound, dates_window, between}
 use Rattle.claim_months.specs.Exposure.{MonthRecord}
 use Rattle.claim_months.specs.Listing.{rows, listed_records, listing_check, listing_of, list_after}
-use Rattle.claim_months.specs.Private.{with_months, SoundWindow, records_in, ListedAs}
+use Rattle.claim_months.specs.design.Private.{with_months, SoundWindow, records_in, ListedAs}
 use Rattle.claim_months.proofs.DateWindows.{window-known, window-refused, dates-sound}
 use Rattle.claim_months.proofs.Checked.{window_placed, checked-known, checked_refused}
 use Rattle.basics.specs.Refused.{numbered}

@@ -44,6 +44,6 @@ returns c =
     ∙ numbers (read_back _ (pos m.duration.0) c.signed.ensures (omega (arith, b.duration_high)))
     (read_back _ (pos m.first.day.0) c.signed-2.ensures (omega (arith, b.first_high)))
     (read_back _ (pos m.last.0) c.signed-3.ensures (omega (arith, b.last_high)))
-    (read_back _ _ c.difference.ensures (difference-size m.upper.0 m.lower.0 b.u_high b.b_high))
+    (read_back _ _ c.difference.ensures (difference-size m.through.0 m.before.0 b.u_high b.b_high))
     (read_back _ (pos (month_of m.first.day.0)) (c.signed-4.ensures ∙ ap pos p.month_is) (omega (arith, month-of-high m.first.day.0 p.high)))
     (read_back _ (pos m.category) c.from.ensures (omega (arith, b.category_high))))

@@ -5,7 +5,7 @@ use mathlib.Core.Path.{refl, ap, ◌∙◌, subst⁻¹}
 use native.Mathlib.Omega.{arith}
 use lib.ListN.{length}
 use Rattle.claim_months.specs.declared.Span.{Span}
-use Rattle.claim_months.specs.Private.{Placed}
+use Rattle.claim_months.specs.design.Private.{Placed}
 use Rattle.claim_months.proofs.Checked.{later-placed, from-placed}
 use Rattle.claim_months.proofs.Rows.{months-are}
 use Rattle.claim_months.proofs.RowTurns.{given, bounds, begin-within, none-written, month-low, month-high, placed, next-late, row-bounds, next-written, all-written}

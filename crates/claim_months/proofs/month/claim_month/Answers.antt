@@ -12,7 +12,7 @@ use Rattle.claim_months.specs.declared.Claim.{Claim}
 use Rattle.claim_months.specs.declared.ClaimMonth.{ClaimMonth}
 use Rattle.claim_months.specs.declared.MonthDay.{MonthDay}
 use Rattle.claim_months.specs.ClaimMonths.{bcd_month, start_in, month_first, month_last}
-use Rattle.claim_months.specs.Private.{Placed, Stands, OfClaim, start_of, HoldsDay}
+use Rattle.claim_months.specs.design.Private.{Placed, Stands, OfClaim, start_of, HoldsDay}
 use Rattle.claim_months.proofs.Months.{bcd-low, start-bcd, start-low, start-high, start-step}
 use Rattle.claim_months.proofs.Checked.{claim-sound, bcd-day-is, bcd-month-is, start_is}
 use Rattle.claim_months.proofs.month.claim_month.Goals as goal

@@ -7,7 +7,7 @@ use Rattle.calendar.specs.Calendar.{month_start, index_length}
 use Rattle.calendar.proofs.Laws.{index-length-low, months-rise, end-month}
 use Rattle.claim_months.specs.declared.Starts.{Starts}
 use Rattle.claim_months.specs.declared.Starts.TheVariants.{After, Before}
-use Rattle.claim_months.specs.Private.{start_at}
+use Rattle.claim_months.specs.design.Private.{start_at}
 use Rattle.claim_months.proofs.Checked.{first_found, last_found, days_off, days-off-is}
 use Rattle.claim_months.proofs.month.start_in.Goals as goal
 

@@ -12,7 +12,7 @@ use Rattle.calendar.specs.Calendar.{day_number}
 use Rattle.calendar.specs.DayAnswers.{known}
 use Rattle.claim_months.specs.declared.Claim.{Claim}
 use Rattle.claim_months.specs.Claim.{within_days, is_missing, termination_day, category}
-use Rattle.claim_months.specs.Private.{maximum_of, near_by}
+use Rattle.claim_months.specs.design.Private.{maximum_of, near_by}
 use Rattle.claim_months.proofs.sound_claim.category.Goals as goal
 
 -- the category by the days that are known and by the code

@@ -10,7 +10,7 @@ use Rattle.basics.proofs.Tests.{tests}
 use Rattle.claim_months.specs.declared.Claim.{Claim}
 use Rattle.claim_months.specs.declared.ClaimDays.{ClaimDays}
 use Rattle.claim_months.specs.Claim.{is_closed, termination_day}
-use Rattle.claim_months.specs.Private.{as_day, days_of}
+use Rattle.claim_months.specs.design.Private.{as_day, days_of}
 use Rattle.claim_months.proofs.Picked.{picked}
 use Rattle.claim_months.proofs.Sound.{sound}
 use Rattle.claim_months.proofs.sound_claim.closing.Goals as goal

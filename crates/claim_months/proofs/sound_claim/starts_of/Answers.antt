@@ -13,7 +13,7 @@ use Rattle.calendar.specs.DayAnswers.{last_day}
 use Rattle.calendar.proofs.Laws.{date-bounds, date-in-month}
 use Rattle.claim_months.specs.declared.MonthDay.{MonthDay}
 use Rattle.claim_months.specs.declared.Starts.TheVariants.{After, Before}
-use Rattle.claim_months.specs.Private.{as_day, month_day, starts_of}
+use Rattle.claim_months.specs.design.Private.{as_day, month_day, starts_of}
 use Rattle.claim_months.proofs.Checked.{last_found}
 use Rattle.claim_months.proofs.sound_claim.starts_of.Goals as goal
 

@@ -14,8 +14,8 @@ use Rattle.basics.proofs.Tests.{by}
 use Rattle.rates.specs.declared.Kind.TheVariants.{Prepared}
 use Rattle.claim_file.specs.Runs.{FileRun}
 use Rattle.claim_file.specs.Run.{Adding, fed, ended}
-use Rattle.claim_file.specs.PreparedRuns.{adding_with}
-use Rattle.claim_file.specs.LentRuns.{run_with}
+use Rattle.claim_file.specs.design.PreparedRuns.{adding_with}
+use Rattle.claim_file.specs.design.LentRuns.{with_sums}
 use Rattle.claim_file.proofs.LentFed.{stopped-fed, due-rises}
 use Rattle.ltd_study.specs.Input.{fed_count, InputRun}
 use Rattle.ltd_study.proofs.Answers.{both, fed-full}
@@ -25,8 +25,8 @@ use Rattle.ltd_study.proofs.input.run_input.Goals.{After-feed_bytes-run, then-is
 
 pub loop-filled-init : goal.loop-filled-init
 loop-filled-init g c =
-    fed-nothing (g.S.Source.left c.args.input.now) (adding_with Prepared c.args.table.now) (run_with c.start-run.result c.args.sums.now)
-    (ap (run_with c.start-run.result) c.requires ∙ c.start-run.ensures)
+    fed-nothing (g.S.Source.left c.args.input.now) (adding_with Prepared c.args.table.now) (with_sums c.start-run.result c.args.sums.now)
+    (ap (with_sums c.start-run.result) c.requires ∙ c.start-run.ensures)
 
 -- the run with what the buffer holds
 module _ (g : _) (c : After-feed_bytes-run g) where
@@ -34,10 +34,10 @@ module _ (g : _) (c : After-feed_bytes-run g) where
   add = adding_with Prepared c.args.table.now
 
   abbrev run : FileRun
-  run = run_with c.loop-filled.run c.loop-filled.sums
+  run = with_sums c.loop-filled.run c.loop-filled.sums
 
   abbrev next : FileRun
-  next = run_with c.feed_bytes-run.result c.feed_bytes-run.new.sums
+  next = with_sums c.feed_bytes-run.result c.feed_bytes-run.new.sums
 
   abbrev buffer : List ℕ
   buffer = c.fill-filled.new.buffer

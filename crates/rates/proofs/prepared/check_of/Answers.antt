@@ -5,8 +5,8 @@ use mathlib.Core.Path.{◌≡◌, sym, ap, ◌∙◌}
 use native.Mathlib.Omega.{arith}
 use lib.ListN.{length}
 use Rattle.basics.specs.Pick.{pick}
-use Rattle.rates.specs.Private.{part_sound_of}
-use Rattle.rates.specs.Prepared.{table_check_of}
+use Rattle.rates.specs.design.Private.{part_sound_of}
+use Rattle.rates.specs.design.Prepared.{table_check_of}
 use Rattle.rates.proofs.Parts.{lent-part}
 use Rattle.rates.proofs.TableForms.{no-form, no-cell, cell-in, part-decides}
 use Rattle.rates.proofs.prepared.check_of.Goals as goal

@@ -7,14 +7,14 @@ use native.Mathlib.Omega.{arith}
 use lib.Dec.{eqb}
 use lib.ListN.{length}
 use Rattle.rates.specs.Rates.{length_sound}
-use Rattle.rates.specs.Prepared.{marked}
-use Rattle.rates.proofs.Preparing.{marked-is}
-use Rattle.rates.proofs.PreparedTables.{behind-marked}
+use Rattle.rates.specs.design.Prepared.{has_mark}
+use Rattle.rates.proofs.Preparing.{has_mark-is}
+use Rattle.rates.proofs.SameTable.{behind-has_mark}
 use Rattle.rates.proofs.prepared.is_marked.Goals as goal
 
 -- numbers with a mark behind them
-last-marks : (table rest : List ℕ) (last m : ℕ) → table ≡ rest ++ (last ∷ []) → marked table m ≡ (length_sound (length rest) && eqb last m)
-last-marks table rest last m e = rw (e, behind-marked rest last m)
+last-marks : (table rest : List ℕ) (last m : ℕ) → table ≡ rest ++ (last ∷ []) → has_mark table m ≡ (length_sound (length rest) && eqb last m)
+last-marks table rest last m e = rw (e, behind-has_mark rest last m)
 
 pub returns-then-is_table : goal.returns-then-is_table
 returns-then-is_table c =
@@ -30,4 +30,4 @@ pub returns-in-None : goal.returns-in-None
 unfolding length_sound
 returns-in-None c =
     let none : length c.args.table.now - 1 ≡ 0 = omega (arith, c.in-None.ensures.cases) in
-    simp (marked-is, none)
+    simp (has_mark-is, none)

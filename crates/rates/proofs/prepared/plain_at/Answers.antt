@@ -10,7 +10,7 @@ use mir.Facts.{to_z_pos}
 use borrow.Author.Rules.{rules}
 use Rattle.basics.specs.Series.{sum_to}
 use Rattle.rates.specs.Rates.{recovery_rate, death_rate}
-use Rattle.rates.specs.Prepared.{rates_over}
+use Rattle.rates.specs.design.Prepared.{rates_over}
 use Rattle.rates.proofs.PartSums.{recovery-at, death-at, plain_more}
 use Rattle.rates.proofs.prepared.plain_at.Goals as goal
 

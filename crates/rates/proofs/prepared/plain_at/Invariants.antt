@@ -2,7 +2,7 @@ use Prim.Native.Nat.{◌+◌, ◌-◌, ◌*◌, ◌≤◌}
 use mathlib.Core.Path.{◌≡◌}
 use lib.IntN.{pos}
 use Rattle.rates.specs.Rates.{recovery_rate, death_rate}
-use Rattle.rates.specs.Prepared.{rates_over}
+use Rattle.rates.specs.design.Prepared.{rates_over}
 use Rattle.rates.proofs.prepared.plain_at.Given as goal
 
 abbrev pub invariant-loop-i : goal.invariant-loop-i

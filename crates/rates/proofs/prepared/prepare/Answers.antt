@@ -7,8 +7,8 @@ use native.Mathlib.Omega.{arith}
 use lib.ListN.{length, drop, length-set, take-append-drop}
 use borrow.Rule.Slice.PartMut.{mid_len}
 use Rattle.rates.specs.Rates.{cells}
-use Rattle.rates.specs.Prepared.{numbers_of_cell, marked, prepared, prepare_check, prepare_after}
-use Rattle.rates.proofs.Preparing.{sound-length, numbers-length, marked-sound, tested, cells-none, cells-more, cells-all}
+use Rattle.rates.specs.design.Prepared.{numbers_of_cell, has_mark, prepared, prepare_check, prepare_after}
+use Rattle.rates.proofs.Preparing.{sound-length, numbers-length, has_mark-sound, tested, cells-none, cells-more, cells-all}
 use Rattle.rates.proofs.prepared.prepare.Goals as goal
 
 pub returns-then-not-is_marked : goal.returns-then-not-is_marked
@@ -20,16 +20,16 @@ returns-then-not-is_marked c =
 
 pub overflow_sub-last : goal.overflow_sub-last
 overflow_sub-last c =
-    let passed : marked c.args.table.now 0 ≡ true = tested _ 0 _ _ true c.is_marked.ensures (omega arith) (c.if-not-is_marked.false) in
+    let passed : has_mark c.args.table.now 0 ≡ true = tested _ 0 _ _ true c.is_marked.ensures (omega arith) (c.if-not-is_marked.false) in
     let table = c.args.table.now in
-    omega (arith, sound-length (length table - 1) (marked-sound table 0 passed))
+    omega (arith, sound-length (length table - 1) (has_mark-sound table 0 passed))
 
 pub loop-cell-init : goal.loop-cell-init
 unfolding numbers_of_cell
 loop-cell-init c =
-    let passed : marked c.args.table.now 0 ≡ true = tested _ 0 _ _ true c.is_marked.ensures (omega arith) (c.if-not-is_marked.false) in
+    let passed : has_mark c.args.table.now 0 ≡ true = tested _ 0 _ _ true c.is_marked.ensures (omega arith) (c.if-not-is_marked.false) in
     let table = c.args.table.now in
-    let s = sound-length (length table - 1) (marked-sound table 0 passed) in (
+    let s = sound-length (length table - 1) (has_mark-sound table 0 passed) in (
       omega arith,
       omega arith,
       omega arith,
@@ -56,7 +56,7 @@ loop-cell-preserved c =
 pub returns : goal.returns
 unfolding prepare_check prepare_after prepared cells
 returns c =
-    let passed : marked c.args.table.now 0 ≡ true = tested _ 0 _ _ true c.is_marked.ensures (omega arith) (c.if-not-is_marked.false) in
+    let passed : has_mark c.args.table.now 0 ≡ true = tested _ 0 _ _ true c.is_marked.ensures (omega arith) (c.if-not-is_marked.false) in
     let yes = passed in
     let at = c.loop-cell in
     let table = c.args.table.now in

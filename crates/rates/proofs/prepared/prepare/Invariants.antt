@@ -1,7 +1,7 @@
 use Prim.Native.Nat.{◌+◌, ◌-◌, ◌*◌, ◌≤◌}
 use mathlib.Core.Path.{◌≡◌}
 use lib.ListN.{length, drop}
-use Rattle.rates.specs.Prepared.{numbers_of_cell}
+use Rattle.rates.specs.design.Prepared.{numbers_of_cell}
 use Rattle.rates.proofs.Preparing.{CellsDone}
 use Rattle.rates.proofs.prepared.prepare.Given as goal
 

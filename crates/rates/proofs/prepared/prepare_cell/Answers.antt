@@ -5,7 +5,7 @@ use native.Mathlib.Omega.{arith}
 use lib.ListN.{length, length-take, drop}
 use lib.Seq.{drop_at}
 use Rattle.rates.specs.Rates.{rates_sound}
-use Rattle.rates.specs.Prepared.{prepared_cell}
+use Rattle.rates.specs.design.Prepared.{prepared_cell}
 use Rattle.rates.proofs.Preparing.{part_small, cell-prepared}
 use Rattle.rates.proofs.prepared.prepare_cell.Goals as goal
 

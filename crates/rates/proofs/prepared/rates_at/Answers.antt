@@ -2,7 +2,7 @@
 use mathlib.Core.Path.{◌∙◌}
 use mir.Syntax.{w64}
 use mir.Facts.{to_z-of_z}
-use Rattle.rates.specs.Prepared.{recovery_of, death_of, rates_over}
+use Rattle.rates.specs.design.Prepared.{recovery_of, death_of, rates_over}
 use Rattle.rates.proofs.Running.{difference-is}
 use Rattle.rates.proofs.prepared.rates_at.Goals as goal
 

@@ -8,7 +8,7 @@ use mir.Facts.{to_z-of_z}
 use mir.Syntax.{w64}
 use Rattle.study.specs.Sums.{sum_at}
 use Rattle.report.specs.Text.{sum_column, sum_columns}
-use Rattle.report.specs.Private.{Put}
+use Rattle.report.specs.design.Private.{Put}
 use Rattle.report.proofs.Texts.{and_then, renamed, shorter, length-kept, nothing}
 use Rattle.report.proofs.columns.put_sums.Goals as goal
 

@@ -1,6 +1,6 @@
 use Prim.Native.Nat.{◌*◌}
 use Rattle.report.specs.Text.{sum_columns}
-use Rattle.report.specs.Private.{Put}
+use Rattle.report.specs.design.Private.{Put}
 use Rattle.report.proofs.columns.put_sums.Given as goal
 
 abbrev pub invariant-loop-column : goal.invariant-loop-column

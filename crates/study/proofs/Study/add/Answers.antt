@@ -1,7 +1,7 @@
 -- `study::Study::add` meets its contract: adding with plain rates is document 01's.
 -- Assumes nothing.
 use mathlib.Core.Path.{◌∙◌}
-use Rattle.study.proofs.EitherTable.{same-adding}
+use Rattle.study.proofs.SameAdding.{same-adding}
 use Rattle.study.proofs.Study.add.Goals as goal
 
 pub returns : goal.returns

@@ -6,7 +6,7 @@ use mathlib.Core.Path.{refl, ◌∙◌}
 use Rattle.basics.specs.Limits.{most_claims}
 use Rattle.basics.specs.Refused.{number_of}
 use Rattle.basics.proofs.Refused.{numbered-from-1}
-use Rattle.study.proofs.EitherTable.{lent-refused, lent-taken, lent-room}
+use Rattle.study.proofs.SameAdding.{lent-refused, lent-taken, lent-room}
 use Rattle.study.proofs.Study.add_with.Goals as goal
 
 pub returns-in-Err : goal.returns-in-Err

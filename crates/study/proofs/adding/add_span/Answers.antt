@@ -5,7 +5,7 @@ use native.Mathlib.Omega.{arith}
 use Prim.Native.Nat.{◌+◌, ◌*◌, ◌≤◌}
 use lib.ListN.{length}
 use Rattle.std.proofs.lemmas.Result.{err_from_is_err_and}
-use Rattle.rates.specs.Prepared.{table_check_of}
+use Rattle.rates.specs.design.Prepared.{table_check_of}
 use Rattle.rates.proofs.Parts.{lent-part, cell-within}
 use Rattle.study.proofs.SpanAdds.{rates-refused, many-taken, no_room, span-taken}
 use Rattle.study.proofs.adding.add_span.Goals as goal

@@ -6,7 +6,7 @@ use Rattle.std.proofs.lemmas.Result.{err_from_is_err_and}
 use Rattle.basics.specs.Refused.{number_of}
 use Rattle.claim_months.proofs.SpanAnswers.{spanned-bounds}
 use Rattle.study.specs.declared.Study.{Study}
-use Rattle.study.specs.PreparedAdding.{lent_study}
+use Rattle.study.specs.design.PreparedAdding.{lent_study}
 use Rattle.study.proofs.WithSpan.{spanned-weight}
 use Rattle.study.proofs.SpanAdds.{with-span, without}
 use Rattle.study.proofs.adding.add_to.Goals as goal

@@ -1,6 +1,6 @@
 -- `study::share::band_rates` meets its contract, once for recoveries and once for deaths.
 -- Assumes nothing.
-use Rattle.rates.specs.Prepared.{part_recovery, part_death}
+use Rattle.rates.specs.design.Prepared.{part_recovery, part_death}
 use Rattle.claim_months.specs.Span.{band_sum}
 use Rattle.study.proofs.Banded.{Less, banded}
 use Rattle.study.proofs.share.band_rates.Goals as goal

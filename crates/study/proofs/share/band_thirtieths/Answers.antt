@@ -3,7 +3,7 @@
 use mathlib.Core.Path.{sym, ◌∙◌}
 use native.Mathlib.Omega.{arith}
 use lib.IntN.{pos}
-use Rattle.claim_months.proofs.Bands.{band-ones}
+use Rattle.claim_months.proofs.SpanIsBand.{band-ones}
 use Rattle.study.proofs.Banded.{less}
 use Rattle.study.proofs.share.band_thirtieths.Goals as goal
 

@@ -10,7 +10,7 @@ use Rattle.basics.proofs.Tests.{tests, by}
 use Rattle.basics.proofs.Tables.{every-at, every-is}
 use Rattle.study.specs.declared.bounds.Bounds.{Bounds}
 use Rattle.study.specs.Sums.{column_at, times_at, in_bounds, all_in_bounds}
-use Rattle.study.specs.Private.{bound_in, group_in_bounds}
+use Rattle.study.specs.design.Private.{bound_in, group_in_bounds}
 use Rattle.study.proofs.Algebra.{at}
 use Rattle.study.proofs.InBounds.{place_bound, all-at, all-is}
 use Rattle.study.proofs.Listed.{all-placed}

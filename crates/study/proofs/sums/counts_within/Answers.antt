@@ -11,7 +11,7 @@ use Rattle.basics.specs.Tables.{every_place}
 use Rattle.basics.proofs.Tests.{tests}
 use Rattle.basics.proofs.Tables.{every-same}
 use Rattle.study.specs.Sums.{is_count, in_bounds}
-use Rattle.study.specs.Private.{counts_in_bounds}
+use Rattle.study.specs.design.Private.{counts_in_bounds}
 use Rattle.study.proofs.Listed.{all-placed}
 use Rattle.study.proofs.sums.counts_within.Goals as goal
 

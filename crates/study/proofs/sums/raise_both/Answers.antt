@@ -19,8 +19,8 @@ use Rattle.basics.proofs.Tests.{tests, by}
 use Rattle.basics.proofs.Integers.{size-product}
 use Rattle.basics.proofs.Signed.{read_back, result-is}
 use Rattle.study.specs.Sums.{group_at, column_at, times_at}
-use Rattle.study.specs.PreparedAdding.{guarded_sum, guarded_plus}
-use Rattle.study.specs.Private.{share_by, one_figure}
+use Rattle.study.specs.design.LentAdding.{guarded_sum, guarded_plus}
+use Rattle.study.specs.design.Private.{share_by, one_figure}
 use Rattle.study.proofs.Algebra.{Shaped, at}
 use Rattle.study.proofs.Raised.{Figures, figure_at, guarded-is, share-at, no-figure, sum-none}
 use Rattle.study.proofs.sums.raise_both.Goals as goal

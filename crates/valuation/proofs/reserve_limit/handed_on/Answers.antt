@@ -3,7 +3,7 @@
 use Prim.Native.Nat.{ℕ}
 use native.Mathlib.Omega.{arith}
 use borrow.Author.Tests.{ne_eqb}
-use Rattle.valuation.specs.Private.{handed_on}
+use Rattle.valuation.specs.design.Private.{handed_on}
 use Rattle.valuation.proofs.reserve_limit.handed_on.Goals as goal
 
 pub returns-in-6 : goal.returns-in-6

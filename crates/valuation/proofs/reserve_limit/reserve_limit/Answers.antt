@@ -8,7 +8,7 @@ use native.Mathlib.Omega.{arith}
 use lib.ListN.{length}
 use Rattle.valuation.specs.LimitAnswers.{limit_by_number}
 use Rattle.valuation.specs.ReserveLimit.{claims_open_in, list_sound}
-use Rattle.valuation.specs.Private.{totals_of}
+use Rattle.valuation.specs.design.Private.{totals_of}
 use Rattle.valuation.proofs.AnswerTests.{passed_on}
 use Rattle.valuation.proofs.LimitAnswers.{list-refused, claims-refused, judged-replaced, judged-given}
 use Rattle.valuation.proofs.reserve_limit.reserve_limit.Goals as goal

@@ -4,7 +4,7 @@ use mathlib.Core.Path.{◌≡◌, ap, ◌∙◌}
 use native.Mathlib.Omega.{arith}
 use Rattle.basics.specs.Refused.{numbered}
 use Rattle.valuation.specs.ReserveLimit.{claims_open_in, open_claims_check, reserve_total}
-use Rattle.valuation.specs.Private.{totals_of}
+use Rattle.valuation.specs.design.Private.{totals_of}
 use Rattle.valuation.proofs.AnswerTests.{passed_on}
 use Rattle.valuation.proofs.LimitAnswers.{totals-stay}
 use Rattle.valuation.proofs.ReserveLaws.{zero_bits}

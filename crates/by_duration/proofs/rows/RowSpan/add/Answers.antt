@@ -3,7 +3,7 @@
 use Rattle.std.proofs.Common.{◌+◌, ◌*◌, ◌<◌, List, length, ℤ, ap, ◌∙◌, arith}
 use mathlib.Core.Path.{subst⁻¹}
 use Rattle.rates.proofs.Parts.{lent-part}
-use Rattle.by_duration.specs.Private.{Fit, raised_by, span_closings}
+use Rattle.by_duration.specs.design.Private.{Fit, raised_by, span_closings}
 use Rattle.by_duration.proofs.Raised.{raised-length, raised-fit, raised-none, raised-same, raised-twice}
 use Rattle.by_duration.proofs.SpanRows.{part-figure, no_cell}
 use Rattle.by_duration.proofs.rows.RowSpan.add.Goals as goal

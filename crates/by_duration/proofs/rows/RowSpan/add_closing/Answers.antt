@@ -1,7 +1,7 @@
 -- `rows::RowSpan::add_closing` meets its contract: the closing month has one more in its row under its category.
 -- Assumes nothing.
 use Rattle.std.proofs.Common.{◌<◌, ◌≤◌, pos, ◌∙◌, arith}
-use Rattle.by_duration.specs.Private.{span_closings}
+use Rattle.by_duration.specs.design.Private.{span_closings}
 use Rattle.by_duration.proofs.Raised.{raised-none, raised-same, raised-one}
 use Rattle.by_duration.proofs.SpanRows.{row-range, closing-none, closing-one}
 use Rattle.by_duration.proofs.rows.RowSpan.add_closing.Goals as goal

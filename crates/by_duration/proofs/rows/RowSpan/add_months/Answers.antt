@@ -5,9 +5,9 @@ use mathlib.Core.Path.{subst⁻¹}
 use lib.IntN.{*ℤ_comm}
 use Rattle.basics.proofs.Signed.{read_back}
 use Rattle.claim_months.proofs.Spans.{thirtieths-size}
-use Rattle.rates.specs.Prepared.{part_recovery, part_death, rates_over}
+use Rattle.rates.specs.design.Prepared.{part_recovery, part_death, rates_over}
 use Rattle.study.proofs.Banded.{one-rate}
-use Rattle.by_duration.specs.Private.{Fit, raised_by, span_months, month_amount}
+use Rattle.by_duration.specs.design.Private.{Fit, raised_by, span_months, month_amount}
 use Rattle.by_duration.proofs.Raised.{raised-length, raised-fit, raised-none, raised-same, raised-twice}
 use Rattle.by_duration.proofs.SpanRows.{row-range, months-none, months-more}
 use Rattle.by_duration.proofs.rows.RowSpan.add_months.Goals as goal

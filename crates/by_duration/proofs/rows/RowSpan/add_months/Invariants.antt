@@ -1,6 +1,6 @@
 use Rattle.std.proofs.Common.{◌≡◌}
-use Rattle.rates.specs.Prepared.{part_recovery, part_death}
-use Rattle.by_duration.specs.Private.{raised_by, span_months}
+use Rattle.rates.specs.design.Prepared.{part_recovery, part_death}
+use Rattle.by_duration.specs.design.Private.{raised_by, span_months}
 use Rattle.by_duration.proofs.rows.RowSpan.add_months.Given as goal
 
 abbrev pub invariant-loop-month : goal.invariant-loop-month

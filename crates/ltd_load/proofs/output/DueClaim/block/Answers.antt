@@ -3,7 +3,7 @@ use mathlib.Core.Path.{◌≡◌, sym, ◌∙◌}
 use native.Mathlib.Omega.{arith}
 use lib.ListN.{length}
 use lib.Seq.{length-take-le}
-use Rattle.ltd_load.specs.Private.{count_from}
+use Rattle.ltd_load.specs.design.Private.{count_from}
 use Rattle.ltd_load.proofs.BlockClaims.{none_filled, next-due, more-filled, all-filled}
 use Rattle.ltd_load.proofs.output.DueClaim.block.Goals as goal
 

@@ -11,7 +11,7 @@ use Rattle.claim_file.specs.Block.{bytes_of_block}
 use Rattle.claim_file.specs.BlockAnswers.{write_sound, bytes_after}
 use Rattle.load.specs.Load.{load_from, seed_at}
 use Rattle.ltd_load.specs.declared.LoadedBlock.{LoadedBlock}
-use Rattle.ltd_load.specs.Private.{count_from, BlockFrom}
+use Rattle.ltd_load.specs.design.Private.{count_from, BlockFrom}
 use Rattle.ltd_load.proofs.output.DueClaim.put_block.Goals as goal
 
 module _ (due x size number : ℕ) (old : List ℕ) (low : 1 ≤ due) (high : due ≤ 65535) (room : length old ≡ 512) (r : LoadedBlock) (made : BlockFrom x size number r) where

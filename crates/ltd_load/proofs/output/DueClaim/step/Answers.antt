@@ -8,7 +8,7 @@ use Rattle.basics.specs.Refused.{numbered}
 use Rattle.load.specs.declared.LoadedClaim.{LoadedClaim}
 use Rattle.load.specs.Load.{drawn, load_claim, load_step}
 use Rattle.load.proofs.Seeds.{answered}
-use Rattle.ltd_load.specs.Private.{Due}
+use Rattle.ltd_load.specs.design.Private.{Due}
 use Rattle.ltd_load.proofs.output.DueClaim.step.Goals as goal
 
 stepped : (x size number : ℕ) (due : Due x size number) (m : Result LoadedClaim Refusal) (d : LoadedClaim) → numbered m ≡ load_step x size number

@@ -15,8 +15,8 @@ use Rattle.claim_months.specs.Span.{span_closing}
 use Rattle.rates.specs.Rates.{group_of}
 use Rattle.study.specs.Sums.{is_count}
 use Rattle.study.specs.Study.{count_in_group}
-use Rattle.study.specs.PreparedAdding.{guarded_plus}
-use Rattle.study.specs.Private.{closing_figure, one_figure}
+use Rattle.study.specs.design.LentAdding.{guarded_plus}
+use Rattle.study.specs.design.Private.{closing_figure, one_figure}
 use Rattle.study.proofs.Places.{a-count}
 use Rattle.study.proofs.Raised.{none-raised, share-same}
 use Rattle.study.proofs.share.Share.add_closing.Goals as goal

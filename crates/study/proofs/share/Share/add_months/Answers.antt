@@ -11,11 +11,11 @@ use mir.Val.{to_z, of_z}
 use Rattle.basics.proofs.Signed.{read_back}
 use Rattle.claim_months.specs.declared.Span.{Span}
 use Rattle.claim_months.specs.Span.{SpanBounds}
-use Rattle.claim_months.proofs.Bands.{band-ones, span-b-high}
+use Rattle.claim_months.proofs.SpanIsBand.{band-ones, span-b-high}
 use Rattle.rates.specs.declared.Kind.{Kind}
-use Rattle.rates.specs.Prepared.{part_recovery, part_death}
-use Rattle.study.specs.PreparedAdding.{guarded_plus}
-use Rattle.study.specs.Private.{months_figure, share_by, one_figure}
+use Rattle.rates.specs.design.Prepared.{part_recovery, part_death}
+use Rattle.study.specs.design.LentAdding.{guarded_plus}
+use Rattle.study.specs.design.Private.{months_figure, share_by, one_figure}
 use Rattle.study.proofs.Algebra.{Shaped}
 use Rattle.study.proofs.Raised.{B-first, B-later, none-raised, no-months, band-raised, before-none, before-step, end_low, end-high}
 use Rattle.study.proofs.share.Share.add_months.Goals as goal

@@ -1,9 +1,9 @@
 use Prim.Native.Nat.{◌+◌, ◌-◌, ◌≤◌}
 use mathlib.Core.Path.{◌≡◌}
 use Rattle.claim_months.specs.Span.{span_b}
-use Rattle.rates.specs.Prepared.{part_recovery, part_death}
-use Rattle.study.specs.PreparedAdding.{guarded_plus}
-use Rattle.study.specs.Private.{months_figure, share_by}
+use Rattle.rates.specs.design.Prepared.{part_recovery, part_death}
+use Rattle.study.specs.design.LentAdding.{guarded_plus}
+use Rattle.study.specs.design.Private.{months_figure, share_by}
 use Rattle.study.proofs.Raised.{Before}
 use Rattle.study.proofs.share.Share.add_months.Given as goal
 

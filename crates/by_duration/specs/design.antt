@@ -1,0 +1,2 @@
+-- What only this layer's way of computing needs. It may be passed over: what is to be believed stands in the files beside this folder.
+pub mod Private
