@@ -2,7 +2,7 @@
 -- Assumes nothing.
 use Prim.Native.Nat.{ℕ}
 use mathlib.Core.Path.{◌≡◌}
-use mathlib.Core.Bool.{true, false, ◌&&◌, and-eq-true_iff}
+use mathlib.Core.Bool.{true, false, ◌&&◌}
 use Rattle.basics.specs.Pick.{pick}
 use Rattle.basics.specs.Checks.{refuse_window}
 use Rattle.basics.proofs.Tests.{tests, by, and_left, and_right}
@@ -32,11 +32,6 @@ dates-sound b e h = and_right (is_date b && is_date e) (window_sound (day_number
 pub windowed : (b e : Date) (P : Result Window ℕ → Type 0) → (dates_window b e ≡ true → P (Ok (between b e))) → (dates_window b e ≡ false → P (Err refuse_window)) → P (window_in b e)
 unfolding window_in
 windowed b e P f g = by (dates_window b e) (λ t. P (pick t (Ok (between b e)) (Err refuse_window))) f g
-
--- year 0 has no date
-pub no-year : (b e : Date) → b.year ≡ 0 → dates_window b e ≡ true → ⊥
-unfolding dates_window is_date
-no-year b e h q = let t = simp and-eq-true_iff at q in omega tests
 
 -- dates in order are dates
 pub both-dates : (b e : Date) → dates_window b e ≡ true → (is_date b ≡ true) × (is_date e ≡ true)

@@ -23,7 +23,7 @@ use Rattle.claim_months.specs.design.Private.{Placed, SoundWindow, Stands, start
 use Rattle.claim_months.proofs.Months.{bcd-low, next-starts}
 use Rattle.claim_months.proofs.Spans.{span-bounds}
 use Rattle.claim_months.proofs.Checked.{claim-sound, bcd-month-is, start_is, start-placed, from_is, to_is}
-use Rattle.claim_months.proofs.Rows.{after, after_none, after-length, after_next, Follows, follows, starts-in, start-within}
+use Rattle.claim_months.proofs.Rows.{after, after_none, after_next, Follows, follows, starts-in, start-within}
 
 abbrev day : MonthDay → ℕ
 day x = x.day.0
@@ -87,9 +87,6 @@ module _ (k : CheckedClaim) (sp : Span) (f : MonthDay) (l : Day) (begin : MonthD
 
   -- of a turn that begins with j months written
   module _ (old new : List ℤ) (start : MonthDay) (j : ℕ) (w : Written d b e n old new start j) where
-    pub list-length : 6 * j ≤ length old → length new ≡ length old
-    list-length h = ap length w.rows-stand ∙ after-length d b e (1 + n) old j h
-
     module _ (t : j < sp.months) where
       -- the day on which the turn's month starts, and its calendar month
       starts-at : day start ≡ start_in d start.month
