@@ -45,10 +45,6 @@ module _ (bytes : List ℕ) (k : ℕ) (h : records bytes ≤ k) where
   unfolding claims_from_record
   claims-end = ap (claims_from_record bytes k) none_left
 
-  pub padded-end : padded_left bytes k ≡ true
-  unfolding padded_from
-  padded-end = ap (padded_from bytes k) none_left
-
 module _ (bytes : List ℕ) (k : ℕ) (h : k < records bytes) where
   one_less : records bytes - k ≡ suc (records bytes - (k + 1))
   one_less = omega tests
@@ -80,9 +76,6 @@ module _ (bytes : List ℕ) (k : ℕ) (h : k < records bytes) where
   found c e =
       by (record_padded bytes (32 * k)) (λ t. Some c ≡ pick t (Some (claim_from bytes (32 * k))) None → (t ≡ true) × (c ≡ claim_from bytes (32 * k)))
       (λ q f. (refl, cc)) (λ q f. let z : ◌≡◌ {A = ℕ} 0 1 = cc in absurd (omega tests)) (e ∙ read_at)
-
-  pub is-record : (c : Claim) → Some c ≡ record_in bytes (32 * k) → record_padded bytes (32 * k) ≡ true
-  is-record c e = (found c e).0
 
 -- the n records from record k on are all read where their zero bytes are zero
 pub all-read : (bytes : List ℕ) (k n : ℕ) → 32 * (k + n) ≤ length bytes
