@@ -1,7 +1,7 @@
 -- What every opened study has and adding keeps, the study of every run has, refused or not. Assumes nothing.
 use Prim.Native.Nat.{ℕ, zero, suc, ◌/◌, ◌%◌}
 use mathlib.Core.Path.{◌≡◌, refl, subst}
-use mathlib.Core.Bool.{◌&&◌}
+use mathlib.Core.Bool.{true, ◌&&◌, false≢true}
 use mathlib.Core.List.{List, [], ◌∷◌}
 use lib.ListN.{length, take, drop}
 use lib.Dec.{ltb, leb, eqb}
@@ -10,8 +10,10 @@ use Rattle.basics.specs.Pick.{pick}
 use Rattle.basics.specs.Checks.{refuse_block, refuse_too_many_records}
 use Rattle.basics.proofs.Tests.{by}
 use Rattle.calendar.specs.declared.Date.{Date}
+use Rattle.calendar.specs.Calendar.{is_date}
 use Rattle.claim_months.specs.declared.Claim.{Claim}
-use Rattle.claim_months.proofs.DateWindows.{windowed, no-year}
+use Rattle.claim_months.specs.Windows.{dates_window}
+use Rattle.claim_months.proofs.DateWindows.{windowed}
 use Rattle.study.specs.declared.Study.{Study}
 use Rattle.study.specs.Study.{fresh, first_day_alone, opened_with, opened}
 use Rattle.claim_file.specs.Runs.{FileRun, CorrectedRun}
@@ -25,10 +27,14 @@ use Rattle.std.specs.Prelude.{Result}
 no-date : Date
 no-date = record { year = 0; month = 0; day = 0 }
 
+no-window : dates_window no-date no-date ≡ true → ⊥
+unfolding dates_window is_date no-date
+no-window q = false≢true q
+
 refused-study : (opened no-date no-date).study ≡ fresh first_day_alone
 unfolding opened opened_with no-date
 refused-study =
-    windowed no-date no-date (λ (m : Result _ ℕ). (opened_with m).study ≡ fresh first_day_alone) (λ q. absurd (no-year no-date no-date refl q)) (λ _. refl)
+    windowed no-date no-date (λ (m : Result _ ℕ). (opened_with m).study ≡ fresh first_day_alone) (λ q. absurd (no-window q)) (λ _. refl)
 
 module _ (P : Study → Type 0) (add : Adding) (opens : (b e : Date) → P (opened b e).study) (keeps : (s : Study) (c : Claim) → P s → P (add s c).study) where
   started-kept : P (fresh first_day_alone)

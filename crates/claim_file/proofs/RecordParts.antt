@@ -16,8 +16,9 @@ use Rattle.basics.proofs.Tests.{by, tests}
 use Rattle.claim_months.specs.declared.Claim.{Claim}
 use Rattle.study.proofs.InBounds.{every_in_range}
 use Rattle.claim_file.specs.Bytes.{byte_at, zero_from}
-use Rattle.claim_file.specs.Record.{claim_bytes, record_padded}
-use Rattle.claim_file.specs.BlockAnswers.{has_record, record_after}
+use Rattle.claim_file.specs.Record.{claim_from, claim_bytes, record_padded}
+use Rattle.std.specs.Prelude.{Some}
+use Rattle.claim_file.specs.BlockAnswers.{has_record, record_in, record_after}
 use Rattle.claim_file.specs.Block.{claims_padded}
 
 pub same-claim :
@@ -45,6 +46,11 @@ same-claim c d n a b t m s k l w =
       cell = l i;
       benefit = w i;
     }
+
+-- a record that is found
+pub record-found : (bytes : List ℕ) (i : ℕ) → has_record i (length bytes) ≡ true → record_padded bytes i ≡ true → Some (claim_from bytes i) ≡ record_in bytes i
+unfolding record_in
+record-found bytes i e p = rw (e, p)
 
 -- a record that there is room for
 pub record-stored : (bytes : List ℕ) (i : ℕ) (c : Claim) → has_record i (length bytes) ≡ true → sets bytes i (claim_bytes c) ≡ record_after c i bytes

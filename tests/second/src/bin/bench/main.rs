@@ -1,13 +1,14 @@
 //! Measures the engine beside the second implementation: bench DIR PROGRAM SECOND_PROGRAM [CLAIMS]. What is compared takes turns over one
 //! claim file, and the best of five turns counts. The load stays in DIR as claims.bin and rates.bin.
 //!
-//! Prints seven tables: the speed of the calls in memory, of the programs, and of `cat` as the floor; the shape of the cost; what the walk
-//! over a claim's months costs early and late in the calendar; the calls that have a cost of their own; what an addition costs; what
-//! corrections cost; and the bars, each with the figure that is held to it. The status is 1 where one falls short. LTD_EARLIER names the
-//! shared library of an earlier build, whose `ltd_add` is measured in the same run.
+//! Prints eight tables: the speed of the calls in memory, of the programs, and of `cat` as the floor; the shape of the cost; what the walk
+//! over a claim's months costs early and late in the calendar; the calls that have a cost of their own; the sums of each duration; what an
+//! addition costs; what corrections cost; and the bars, each with the figure that is held to it. The status is 1 where one falls short.
+//! LTD_EARLIER names the shared library of an earlier build, whose `ltd_add` is measured in the same run.
 
 mod additions;
 mod bars;
+mod durations;
 
 use bars::{Asked, Bars};
 use second::block::{claim_record, BLOCK_LENGTH, CLAIM_LENGTH, RECORDS_LENGTH};
@@ -69,6 +70,7 @@ fn measured(arguments: &[String], count: usize) -> Result<bool, String> {
     shape(count, &mut bars)?;
     walk(&mut bars)?;
     calls(count)?;
+    durations::durations(count, &mut bars)?;
     additions::additions(earlier.as_deref(), &mut bars)?;
     corrections(&mut bars)?;
     Ok(bars.print())
