@@ -33,13 +33,16 @@
 /* The version of this header. A library has all of its calls if the version that its ltd_version answers has the same major and no lower
    minor. */
 #define LTD_VERSION_MAJOR 1
-#define LTD_VERSION_MINOR 0
+#define LTD_VERSION_MINOR 1
 #define LTD_VERSION_PATCH 0
 #define LTD_VERSION (65536 * LTD_VERSION_MAJOR + 256 * LTD_VERSION_MINOR + LTD_VERSION_PATCH)
 
-/* Lengths: the numbers of a study, and of a file's study with what was refused and where; the bytes of a block and of a claim's record. */
+/* Lengths: the numbers of a study, of a file's study with what was refused and where, and of n rows by duration, of which there are at most
+   2,000; the bytes of a block and of a claim's record. */
 #define LTD_STUDY_NUMBERS 83
 #define LTD_FILE_STUDY_NUMBERS 86
+#define LTD_DURATIONS_NUMBERS(n) (4 + 8 * (size_t)(n))
+#define LTD_MOST_DURATIONS 2000
 #define LTD_BLOCK_BYTES 512
 #define LTD_CLAIM_BYTES 32
 

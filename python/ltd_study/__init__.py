@@ -48,7 +48,7 @@ from .company_rule import SmallCompany, small_company
 from .study import GROUPS, GroupSums, Study
 from .valuation import Factor, ReserveLimit, factor, reserve_factor, reserve_limit, valuation_rate, wanted_count
 
-__version__ = "1.0.0"
+__version__ = "1.1.0"
 
 __all__ = [
     "CODE_WORDS",

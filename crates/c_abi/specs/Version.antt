@@ -5,7 +5,7 @@ unfoldable pub major : ℕ
 major = 1
 
 unfoldable pub minor : ℕ
-minor = 0
+minor = 1
 
 unfoldable pub patch : ℕ
 patch = 0

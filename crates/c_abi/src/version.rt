@@ -7,5 +7,5 @@ ghost use Rattle.c_abi.specs.Version.{version_number};
 pub extern "C" fn ltd_version() -> u32
     ensures { result ≡ version_number }
 {
-    65536
+    65792
 }
