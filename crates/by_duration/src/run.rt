@@ -56,7 +56,15 @@ fn add_file(kind: Kind, table: &[u32], file: &[u8], n: u32, rows: &mut [i64]) ->
         let block = &file[at..end];
         let before = run.taken;
         run = feed_lent(kind, table, block, run, &mut sums);
-        add_block(kind, table, run.window, block, run.taken - before, n, rows);
+        add_block(
+            kind,
+            table,
+            run.window.window,
+            block,
+            run.taken - before,
+            n,
+            rows,
+        );
         at = end;
     }
     run.end().with_sums(sums)

@@ -56,6 +56,32 @@ in_place bytes k (suc n) (suc i) h =
 pub at_place : (bytes : List ℕ) (i : ℕ) → i < 15 → get_or (claims_in bytes 0 15) i no_claim ≡ placed bytes (claim_count bytes) i
 at_place bytes i h = let e : 0 + i ≡ i = omega arith in in_place bytes 0 15 i h ∙ ap (placed bytes (claim_count bytes)) e
 
+leb-same : (a b c d : ℕ) → (a ≤ b → c ≤ d) → (c ≤ d → a ≤ b) → leb a b ≡ leb c d
+leb-same a b c d f g =
+    by (leb a b) (λ t. t ≡ leb c d)
+    (λ e. let h : a ≤ b = omega tests in sym (le-leb c d (f h)))
+    (λ e. by (leb c d) (λ t. false ≡ t) (λ q. let k = g (omega tests) in absurd (omega tests)) (λ q. refl))
+
+pub placed-more : (bytes : List ℕ) (n : ℕ) (claims : List Claim) (c : Claim) → n < 15 → c ≡ block_claim bytes n → Placed bytes n claims
+    → Placed bytes (n + 1) (set claims n c)
+placed-more bytes n claims c h v p = (
+  length-set claims n c ∙ p.0,
+  λ k l.
+      by (eqb k n) (λ _. get_or (set claims n c) k no_claim ≡ placed bytes (n + 1) k)
+      (λ e.
+      let q : k ≡ n = eqb-true k n e in
+      ap (λ (j : ℕ). get_or (set claims n c) j no_claim) q
+      ∙ get_or-set_same claims n c no_claim (omega arith)
+      ∙ v
+      ∙ sym (ap (block_claim bytes) q)
+      ∙ sym (ap (λ (t : Bool). pick t (block_claim bytes k) no_claim) (le-leb (suc k) (n + 1) (omega arith))))
+      (λ e.
+      let q : k ≡ n → ⊥ = eqb-false k n e in
+      get_or-set_other claims n k c no_claim q
+      ∙ p.1 k l
+      ∙ ap (λ (t : Bool). pick t (block_claim bytes k) no_claim) (leb-same (suc k) n (suc k) (n + 1) (λ a. omega arith) (λ a. omega arith))),
+)
+
 pub placed-all : (bytes : List ℕ) (claims : List Claim) → Placed bytes (claim_count bytes) claims → claims ≡ claims_in bytes 0 15
 placed-all bytes claims p =
     ext_get_or no_claim claims (claims_in bytes 0 15) (p.0 ∙ sym (length-in bytes 0 15))

@@ -1,65 +1,61 @@
--- A line put into a lent list.
+-- The lines of a run are what it prints; and each is put by one of the three functions.
 -- Assumes nothing.
-use Prim.Native.Nat.{ℕ, ◌+◌, ◌≤◌, ◌<◌}
+use Prim.Native.Nat.{ℕ, ◌≤◌, ◌<◌}
 use mathlib.Core.Path.{◌≡◌, refl, sym, ap, ◌∙◌}
-use mathlib.Core.Bool.{Bool}
-use mathlib.Core.List.{List, [], ◌++◌}
+use mathlib.Core.Bool.{Bool, false}
+use mathlib.Core.List.{List, [], ◌++◌, append-nil}
+use lib.Dec.{leb, eqb}
+use lib.IntN.{ℤ}
 use native.Mathlib.Omega.{arith}
-use lib.ListN.{length, drop}
-use lib.Seq.{sets-eq, length-sets, length-take-le}
-use lib.Dec.{ltb}
-use borrow.Author.Tests.{lt-ltb, le-ltb}
-use Rattle.report.specs.Counts.{IsPrefixLen}
+use borrow.Author.Tests.{le-leb, lt-leb, ne_eqb}
+use Rattle.std.specs.Prelude.{Option, Some, None}
 use Rattle.basics.specs.Pick.{pick}
-use Rattle.basics.proofs.Tests.{is-pick}
-use Rattle.report.specs.Text.{line_answer, line_after}
-use Rattle.report.specs.design.Private.{Put}
+use Rattle.basics.proofs.Tests.{by}
+use Rattle.claim_file.specs.design.LentRuns.{with_sums}
+use Rattle.claim_file.specs.declared.LentRun.{LentRun}
+use Rattle.claim_file.specs.declared.Stop.{Stop}
+use Rattle.basics.specs.Refused.{number_of}
+use Rattle.basics.specs.declared.refusal.Refusal.{Refusal}
+use Rattle.basics.proofs.Refused.{numbered-from-1}
+use Rattle.report.specs.Text.{table_head, table_text, group_line, refusal_line, run_text, run_line}
+use Rattle.report.specs.RunLines.{RunLines}
 
--- the answer, the list at exit, and that the answer counts bytes of it
-abbrev pub Answered : ℕ → List ℕ → List ℕ → ℕ → List ℕ → Type 0
-Answered asked old line r new = (r ≡ line_answer asked old line) × ((new ≡ line_after asked old line) × IsPrefixLen r new)
+pub run-lines : RunLines
+unfolding RunLines run_text run_line table_text
+run-lines r =
+    let line : Bool → ℕ → List ℕ =
+    λ t k. pick t (pick (eqb k 0) table_head (pick (leb k 5) (group_line r.study.sums k) [])) (pick (eqb k 0) (refusal_line r.refused r.block r.place) []) in
+    by (eqb r.refused 0)
+    (λ t. pick t (table_text r.study.sums) (refusal_line r.refused r.block r.place) ≡ line t 0 ++ (line t 1 ++ (line t 2 ++ (line t 3 ++ (line t 4 ++ line t 5)))))
+    (λ q. refl) (λ q. sym (append-nil (refusal_line r.refused r.block r.place)))
 
-counts : (r : ℕ) (l : List ℕ) → r ≤ length l → IsPrefixLen r l
-counts r l h = (h, sym (length-take-le r l h))
+-- a refusal's number is none of a run that goes on
+refused : (r : Refusal) → eqb (number_of r) 0 ≡ false
+refused r = ne_eqb (number_of r) 0 (λ e. omega (arith, e, numbered-from-1 r))
 
-pub short : (asked : ℕ) (old line : List ℕ) → length old < asked → Answered asked old line 0 old
-unfolding line_answer line_after
-short asked old line h =
-    let t = sym (lt-ltb (length old) asked h) in
-    (ap (λ (b : Bool). pick b 0 (length line)) t, (ap (λ (b : Bool). pick b old (line ++ drop (length line) old)) t, counts 0 old (omega arith)))
+-- which line a run has at a place: of one that stopped, and of one that went on
+module _ (run : LentRun) (sums : List ℤ) (k : ℕ) where
+  abbrev line : Option Stop → List ℕ
+  line stop = run_line (with_sums (record run { stop = stop }) sums) k
 
-pub long : (asked : ℕ) (old line : List ℕ) (r : ℕ) (new : List ℕ) (most : ℕ) → asked ≤ length old → most ≤ asked → Put most old 0 line new r
-    → Answered asked old line r new
-unfolding line_answer line_after
-long asked old line r new most h m p =
-    let t = sym (le-ltb (length old) asked h) in
-    let e : r ≡ length line = omega (arith, p.behind) in
-    let z : 0 + length line ≡ length line = omega arith in
-    let n = ap length p.stored ∙ length-sets old 0 line in (
-      e ∙ ap (λ (b : Bool). pick b 0 (length line)) t,
-      (
-        p.stored ∙ sets-eq line old 0 (omega (arith, p.within)) ∙ ap (λ (k : ℕ). line ++ drop k old) z ∙ ap (λ (b : Bool). pick b old (line ++ drop (length line) old)) t,
-        counts r new (omega (arith, p.within)),
-      ),
-    )
+  module _ (s : Stop) (e : run.stop ≡ Some s) where
+    pub stopped-line : (n : ℕ) → n ≡ number_of s.refusal → k ≡ 0 → refusal_line n s.block s.place ≡ run_line (with_sums run sums) k
+    unfolding run_line with_sums
+    stopped-line n p z = ap (λ (m : ℕ). refusal_line m s.block s.place) p ∙ sym (ap line e ∙ rw (z, refused s.refusal) refl)
 
--- the same of a line that is another, and of a list that is longer than asked for
-pub for-line : (asked : ℕ) (old line other : List ℕ) (r : ℕ) (new : List ℕ) → line ≡ other → Answered asked old line r new
-    → Answered asked old other r new
-for-line asked old line other r new e p = rw e at p
+    pub stopped_none : (k ≡ 0 → ⊥) → [] ≡ run_line (with_sums run sums) k
+    unfolding run_line with_sums
+    stopped_none z = sym (ap line e ∙ rw (refused s.refusal, ne_eqb k 0 z) refl)
 
-pub asked-more : (less asked : ℕ) (old line : List ℕ) (r : ℕ) (new : List ℕ) → less ≤ asked → asked ≤ length old → Answered less old line r new
-    → Answered asked old line r new
-unfolding line_answer line_after
-asked-more less asked old line r new l h p =
-    let s = le-ltb (length old) less (omega arith) in
-    let t = sym (le-ltb (length old) asked h) in (
-      p.0 ∙ ap (λ (b : Bool). pick b 0 (length line)) (s ∙ t),
-      (p.1.0 ∙ ap (λ (b : Bool). pick b old (line ++ drop (length line) old)) (s ∙ t), p.1.1),
-    )
+  module _ (e : run.stop ≡ None) where
+    pub head-line : k ≡ 0 → table_head ≡ run_line (with_sums run sums) k
+    unfolding run_line with_sums
+    head-line z = sym (ap line e ∙ rw z refl)
 
--- no line
-pub no_line : (asked : ℕ) (old : List ℕ) → Answered asked old [] 0 old
-unfolding line_answer line_after
-no_line asked old =
-    (is-pick (ltb (length old) asked) (λ q. refl) (λ q. refl), (is-pick (ltb (length old) asked) (λ q. refl) (λ q. refl), counts 0 old (omega arith)))
+    pub past-line : 5 < k → [] ≡ run_line (with_sums run sums) k
+    unfolding run_line with_sums
+    past-line z = sym (ap line e ∙ rw (ne_eqb k 0 (λ q. omega arith), lt-leb k 5 z) refl)
+
+    pub group-line : (k ≡ 0 → ⊥) → k ≤ 5 → group_line sums k ≡ run_line (with_sums run sums) k
+    unfolding run_line with_sums
+    group-line z h = sym (ap line e ∙ rw (ne_eqb k 0 z, le-leb k 5 h) refl)

@@ -16,7 +16,7 @@ use Rattle.report.specs.Text.{run_text, run_line, line_answer, line_after}
 use Rattle.report.specs.RunLines.{RunLines}
 use Rattle.report.specs.design.Private.{Put}
 use Rattle.report.proofs.Texts.{and_then, shorter, nothing}
-use Rattle.report.proofs.RunLines.{Answered}
+use Rattle.report.proofs.Lines.{Answered}
 use Rattle.report.proofs.RunLines.{run-lines}
 
 -- the first n lines of a run

@@ -1,6 +1,6 @@
 -- `head_line` meets its contract: a list that is too short is left as it is, and another begins with the head. Assumes nothing.
 use native.Mathlib.Omega.{arith}
-use Rattle.report.proofs.RunLines.{short, long}
+use Rattle.report.proofs.Lines.{short, long}
 use Rattle.report.specs.Text.{table_head}
 use Rattle.report.proofs.head_line.Goals as goal
 

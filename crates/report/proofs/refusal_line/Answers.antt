@@ -1,6 +1,6 @@
 -- `refusal_line` meets its contract: a list that is too short is left as it is, and another begins with the line. Assumes nothing.
 use native.Mathlib.Omega.{arith}
-use Rattle.report.proofs.RunLines.{short, long}
+use Rattle.report.proofs.Lines.{short, long}
 use Rattle.report.proofs.refusal_line.Goals as goal
 
 pub returns-then-line-lt64 : goal.returns-then-line-lt64

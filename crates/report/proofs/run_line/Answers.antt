@@ -2,7 +2,7 @@
 use mathlib.Core.List.{[]}
 use native.Mathlib.Omega.{arith}
 use Rattle.report.specs.Text.{table_head, group_line, refusal_line}
-use Rattle.report.proofs.RunLines.{short, for-line, asked-more, no_line}
+use Rattle.report.proofs.Lines.{short, for-line, asked-more, no_line}
 use Rattle.report.proofs.RunLines.{stopped-line, stopped_none, head-line, past-line, group-line}
 use Rattle.report.proofs.run_line.Goals as goal
 

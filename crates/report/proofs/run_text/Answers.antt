@@ -8,7 +8,7 @@ use Rattle.claim_file.specs.Runs.{FileRun}
 use Rattle.claim_file.specs.design.LentRuns.{with_sums}
 use Rattle.report.specs.Text.{run_text, run_line}
 use Rattle.report.specs.design.Private.{Put}
-use Rattle.report.proofs.RunLines.{short, long}
+use Rattle.report.proofs.Lines.{short, long}
 use Rattle.report.proofs.Texts.{renamed, length-kept}
 use Rattle.report.proofs.TextLines.{no_lines, all_lines, line-put, lines_more}
 use Rattle.report.proofs.run_text.Goals as goal
