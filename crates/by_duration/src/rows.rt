@@ -9,7 +9,8 @@ ghost use Rattle.by_duration.specs.design.Private.{Fit, raised_by, month_amount,
 use crate::wrapping::raise;
 use basics::Duration;
 use basics::limits::CELL_NUMBERS;
-use claim_months::{Claim, Span, Window};
+use claim_months::windows::WindowMonths;
+use claim_months::{Claim, Span};
 use rates::{Cell, Kind, RateSums};
 use study::expected::month_expected;
 
@@ -95,7 +96,7 @@ impl RowSpan {
 pub(crate) fn add_rows(
     kind: Kind,
     table: &[u32],
-    window: Window,
+    window: WindowMonths,
     claim: Claim,
     n: u32,
     rows: &mut [i64],
@@ -103,9 +104,9 @@ pub(crate) fn add_rows(
     requires le_n { 1 ≤ n }
     requires rows_len { length rows.old ≡ 8 * n }
     requires fit { Fit rows.old }
-    ensures { rows.new ≡ raised_by rows.old (checked_figure kind n window table.now claim) }
+    ensures { rows.new ≡ raised_by rows.old (checked_figure kind n window.window table.now claim) }
 {
-    if let Ok(span) = claim_months::exposure::span(claim, window) {
+    if let Ok(span) = claim_months::exposure::span_in(claim, window) {
         RowSpan { span, n }.add(kind, table, Cell(u32::from(claim.cell)), rows);
     }
 }

@@ -14,14 +14,14 @@ use basics::limits::{BLOCK_BYTES, NO_FORM};
 use claim_file::record::read_record;
 use claim_file::run::feed_lent;
 use claim_file::{FileRun, LentRun, RunEnd};
-use claim_months::Window;
+use claim_months::windows::WindowMonths;
 use rates::Kind;
 
 // Adds the first claims of a block to the n rows.
 fn add_block(
     kind: Kind,
     table: &[u32],
-    window: Window,
+    window: WindowMonths,
     block: &[u8],
     count: u32,
     n: u32,
@@ -31,7 +31,7 @@ fn add_block(
     requires rows_len { length rows.old ≡ 8 * n }
     requires fit { Fit rows.old }
     requires records { (k : ℕ) → k < count → Some (block_claim block.now k) ≡ record_in block.now (16 + 32 * k) }
-    ensures { rows.new ≡ raised_by rows.old (checked_sum kind n window table.now (claims_of_block block.now 0 count)) }
+    ensures { rows.new ≡ raised_by rows.old (checked_sum kind n window.window table.now (claims_of_block block.now 0 count)) }
 {
     for place in 0..count {
         if let Some(claim) = read_record(block, 16 + 32 * place as usize) {
@@ -56,15 +56,7 @@ fn add_file(kind: Kind, table: &[u32], file: &[u8], n: u32, rows: &mut [i64]) ->
         let block = &file[at..end];
         let before = run.taken;
         run = feed_lent(kind, table, block, run, &mut sums);
-        add_block(
-            kind,
-            table,
-            run.window.window,
-            block,
-            run.taken - before,
-            n,
-            rows,
-        );
+        add_block(kind, table, run.window, block, run.taken - before, n, rows);
         at = end;
     }
     run.end().with_sums(sums)

@@ -11,7 +11,7 @@ use Rattle.std.specs.Prelude.{Ok}
 
 pub invariant_of-add : goal.invariant_of-add
 invariant_of-add c =
-    let answered : Ok c.in-Ok.span ≡ span_in c.args.claim c.args.window.first.0 c.args.window.last.0 = ap numbered (sym c.in-Ok.is) ∙ c.span.ensures in
+    let answered : Ok c.in-Ok.span ≡ span_in c.args.claim c.args.window.window.first.0 c.args.window.window.last.0 = ap numbered (sym c.in-Ok.is) ∙ c.span_in.ensures in
     record { span_bounds = spanned-bounds _ _ _ _ answered; le_n = c.requires.le_n }
 
 pub shape_of-rows : goal.shape_of-rows
@@ -19,14 +19,14 @@ shape_of-rows c = c.add.auto.rows
 
 pub returns-in-Ok : goal.returns-in-Ok
 returns-in-Ok c =
-    let answered : Ok c.in-Ok.span ≡ span_in c.args.claim c.args.window.first.0 c.args.window.last.0 = ap numbered (sym c.in-Ok.is) ∙ c.span.ensures in
+    let answered : Ok c.in-Ok.span ≡ span_in c.args.claim c.args.window.window.first.0 c.args.window.window.last.0 = ap numbered (sym c.in-Ok.is) ∙ c.span_in.ensures in
     (rw c.from.ensures at c.add.ensures)
     ∙ raised-same c.args.rows.now _ _
-    (λ r k _ _. span-checked c.args.kind c.args.n c.args.window c.args.table.now c.args.claim c.in-Ok.span answered r k)
+    (λ r k _ _. span-checked c.args.kind c.args.n c.args.window.window c.args.table.now c.args.claim c.in-Ok.span answered r k)
 
 pub returns-in_default : goal.returns-in_default
 returns-in_default c =
     raised-none c.args.rows.now _ c.requires.fit
     (λ r k _ _.
-    refused-checked c.args.kind c.args.n c.args.window c.args.table.now c.args.claim (number_of c.in_default.field-0)
-    (ap numbered (sym c.in_default.is) ∙ c.span.ensures) r k)
+    refused-checked c.args.kind c.args.n c.args.window.window c.args.table.now c.args.claim (number_of c.in_default.field-0)
+    (ap numbered (sym c.in_default.is) ∙ c.span_in.ensures) r k)

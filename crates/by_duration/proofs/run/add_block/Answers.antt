@@ -20,10 +20,10 @@ loop-place-preserved c =
     elim c.match-read_record.branch [
       | in-Some w ↦
           let same : w.in-Some.claim ≡ block_claim a.block.now p = same-record _ _ c.read_record.result w.in-Some.is (there ∙ sym c.read_record.ensures) in
-          let e = w.rows-is ∙ w.add_rows.ensures ∙ ap (λ (x : Claim). raised_by l.rows (checked_figure a.kind a.n a.window a.table.now x)) same in (
+          let e = w.rows-is ∙ w.add_rows.ensures ∙ ap (λ (x : Claim). raised_by l.rows (checked_figure a.kind a.n a.window.window a.table.now x)) same in (
             ap length e ∙ raised-length l.rows _ ∙ l.invariant.0,
             subst⁻¹ Fit e (raised-fit l.rows _),
-            l.invariant.2 ∙ place-more a.kind a.n a.table.now a.window a.block.now l.rows _ a.count p h e,
+            l.invariant.2 ∙ place-more a.kind a.n a.table.now a.window.window a.block.now l.rows _ a.count p h e,
           )
       | in_default w ↦ absurd (w.in_default.not-Some _ (c.read_record.ensures ∙ sym there))
     ]
@@ -32,4 +32,4 @@ pub returns : goal.returns
 returns c =
     let a = c.args in
     let l = c.loop-place in
-    sym (l.invariant.2 ∙ places-end a.kind a.n a.table.now a.window a.block.now l.rows a.count l.place l.invariant.1 (omega arith))
+    sym (l.invariant.2 ∙ places-end a.kind a.n a.table.now a.window.window a.block.now l.rows a.count l.place l.invariant.1 (omega arith))
