@@ -1,6 +1,7 @@
 -- A span's months and its closing, one after the other, as amounts of rows; together they are the figures of its month records.
 -- Assumes nothing.
-use Rattle.std.proofs.Common.{◌≡◌, ℕ, suc, ◌+◌, ◌-◌, ◌*◌, ◌<◌, ◌≤◌, Bool, true, false, ◌&&◌, eqb, leb, List, length, ℤ, pos, ◌+ℤ◌, ◌*ℤ◌, sym, refl, ap, ◌∙◌, ap₂, mul-zero, add-one, eq-eqb, ne_eqb, le-leb}
+use Rattle.std.proofs.Common.{get_or, min, ◌-ℤ◌, ◌≡◌, ℕ, suc, ◌+◌, ◌-◌, ◌*◌, ◌<◌, ◌≤◌, Bool, true, false, ◌&&◌, eqb, leb, List, length, ℤ, pos, ◌+ℤ◌, ◌*ℤ◌, sym, refl, ap, ◌∙◌, ap₂, mul-zero, add-one, eq-eqb, ne_eqb, le-leb}
+use mathlib.Core.Path.{subst⁻¹}
 use mathlib.Core.Bool.{and-false}
 use lib.IntN.{+ℤ_idl, +ℤ_idr, suc_ℤ-*ℤ, zero-*ℤ}
 use borrow.Author.Tests.{lt-leb}
@@ -10,21 +11,23 @@ use Rattle.basics.proofs.Tests.{tests, by, pick_is, and_left, and_right}
 use Rattle.calendar.specs.Calendar.{last_day_number}
 use Rattle.claim_months.specs.declared.Claim.{Claim}
 use Rattle.claim_months.specs.declared.Span.{Span}
-use Rattle.claim_months.specs.Exposure.{month_records, weighted, closings}
+use Rattle.claim_months.specs.Exposure.{month_records}
 use Rattle.claim_months.specs.declared.Window.{Window}
-use Rattle.claim_months.specs.Span.{span_of, span_thirtieths, span_weighted, span_closing, exposure_check, span_in}
+use Rattle.claim_months.specs.Span.{span_of, span_u, span_b, span_thirtieths, span_weighted, span_closing, exposure_check, span_in}
 use Rattle.claim_months.proofs.SpanAnswers.{exposed, spanned, span-refused}
 use Rattle.rates.specs.declared.Kind.{Kind}
-use Rattle.rates.specs.design.Prepared.{recovery_of, death_of, part_recovery, part_death}
+use Rattle.rates.specs.Rates.{place}
+use Rattle.rates.specs.declared.Kind.TheVariants.{Prepared}
+use Rattle.rates.specs.design.Prepared.{sum_before, prepared_rate, recovery_of, death_of, part_recovery, part_death}
 use Rattle.rates.proofs.Parts.{cell_part, part-recovery, part-death}
 use Rattle.claim_months.proofs.Sound.{Sound}
 use Rattle.claim_months.proofs.Spans.{span-weighted, span-closings}
 use Rattle.study.specs.Sums.{is_count}
 use Rattle.study.specs.design.Private.{column_rate}
 use Rattle.by_duration.specs.Rows.{row_of, in_row, row_weight, row_figure, claim_figure}
-use Rattle.by_duration.specs.design.Private.{month_amount, span_months, span_closings, has_cell, span_figure, checked_figure}
+use Rattle.by_duration.specs.design.Private.{WholeTo, raised_by, month_amount, span_months, span_closings, has_cell, span_figure, checked_figure}
 use Rattle.by_duration.proofs.Figures.{figure_in, row-figure}
-use Rattle.by_duration.proofs.Raised.{one_amount}
+use Rattle.by_duration.proofs.Raised.{raised-same, raised-twice, one_amount}
 use Rattle.std.specs.Prelude.{Err, Ok}
 
 pub once : (x : ℤ) → pos 1 *ℤ x ≡ x
@@ -93,6 +96,57 @@ module _ (recovery death : ℕ → ℤ) where
       (ap (λ (z : ℤ). pick (eqb row r) z (pos 0)) (column-amount c d t h q) ∙ picked-times (eqb row r) (column_rate recovery death c d) t
       ∙ (λ i. pick (eqb (er i) r) (column_rate recovery death c d) (pos 0) *ℤ t)
       ∙ (λ i. row_weight n r (column_rate recovery death c) (ed i) *ℤ et i))))
+
+  -- the same of rows that the months before it were added to
+  pub months-step : (n : ℕ) (sp : Span) (m row d : ℕ) (t x y : ℤ) → d ≡ sp.first.0 + m → row ≡ row_of n d → t ≡ span_thirtieths sp m
+      → x ≡ recovery d *ℤ t → y ≡ death d *ℤ t → (s rows after : List ℤ) → rows ≡ raised_by s (span_months recovery death n sp m)
+      → after ≡ raised_by rows (month_amount row t x y) → after ≡ raised_by s (span_months recovery death n sp (m + 1))
+  months-step n sp m row d t x y ed er et ex ey s rows after e f =
+      f ∙ ap (λ (z : List ℤ). raised_by z (month_amount row t x y)) e ∙ raised-twice s _ _
+      ∙ raised-same s _ (span_months recovery death n sp (m + 1)) (λ r i _ h. months-more n sp m row d t x y ed er et ex ey r i h)
+
+-- of a prepared part, the rate at a duration from 3 to 480 is the difference of two numbers
+rate-between : (part : List ℕ) (from d i j : ℕ) → 3 ≤ d → d ≤ 480 → i ≡ from + (d - 2) → j + 1 ≡ i
+    → pos (get_or part i 0) -ℤ pos (get_or part j 0) ≡ prepared_rate part from d
+unfolding prepared_rate sum_before place
+rate-between part from d i j low high e f =
+    let p : min d 480 - 2 ≡ suc (d - 3) = omega tests in
+    let a : i ≡ from + suc (d - 3) = omega tests in
+    let b : j ≡ from + (d - 3) = omega tests in
+    rw p (ap₂ (λ (a b : ℕ). pos (get_or part a 0) -ℤ pos (get_or part b 0)) a b)
+
+module _ (part : List ℕ) (d i : ℕ) (l : length part ≡ 958) (low : 3 ≤ d) (high : d ≤ 480) where
+  pub recovery-between : i ≡ d - 2 → pos (get_or part i 0) -ℤ pos (get_or part (i - 1) 0) ≡ part_recovery Prepared part d
+  unfolding part_recovery recovery_of
+  recovery-between e = rw (eq-eqb (length part) 958 l) (rate-between part 0 d i (i - 1) low high (omega tests) (omega tests))
+
+  pub death-between : i ≡ 477 + d → pos (get_or part i 0) -ℤ pos (get_or part (i - 1) 0) ≡ part_death Prepared part d
+  unfolding part_death death_of
+  death-between e = rw (eq-eqb (length part) 958 l) (rate-between part 479 d i (i - 1) low high (omega tests) (omega tests))
+
+-- a month that is neither the first nor the last has 30 thirtieths
+whole-thirtieths : (sp : Span) (m : ℕ) → 0 < m → m + 1 < sp.months → pos 30 ≡ span_thirtieths sp m
+unfolding span_thirtieths span_u span_b
+whole-thirtieths sp m low high =
+    rw (ne_eqb (m + 1) sp.months (λ (e : m + 1 ≡ sp.months). omega tests), ne_eqb m 0 (λ (e : m ≡ 0). omega tests)) refl
+
+own-row : (n d : ℕ) → d ≤ n → d ≡ row_of n d
+unfolding row_of
+own-row n d h = omega tests
+
+-- a whole month more, as one that has the thirtieths of the second
+pub whole-step : (kind : Kind) (part : List ℕ) (n : ℕ) (sp : Span) (to m d : ℕ) → WholeTo kind part n sp to → 1 ≤ m → m < to → d ≡ sp.first.0 + m
+    → (t x y : ℤ) → t ≡ span_thirtieths sp 1 → x ≡ part_recovery Prepared part d *ℤ t → y ≡ part_death Prepared part d *ℤ t → (s rows after : List ℤ)
+    → rows ≡ raised_by s (span_months (part_recovery kind part) (part_death kind part) n sp m) → after ≡ raised_by rows (month_amount d t x y)
+    → after ≡ raised_by s (span_months (part_recovery kind part) (part_death kind part) n sp (m + 1))
+whole-step kind part n sp to m d w low high at t x y et ex ey s rows after e f =
+    let more : 1 < to = omega tests in
+    let last = w.before_last more in
+    let within = w.with_rows more in
+    let k : kind ≡ Prepared = w.prepared more in
+    let same : t ≡ span_thirtieths sp m = et ∙ sym (whole-thirtieths sp 1 (omega tests) (omega tests)) ∙ whole-thirtieths sp m (omega tests) (omega tests) in
+    months-step (part_recovery kind part) (part_death kind part) n sp m d d t x y at (own-row n d (omega tests)) same
+    (subst⁻¹ (λ (z : Kind). x ≡ part_recovery z part d *ℤ t) k ex) (subst⁻¹ (λ (z : Kind). y ≡ part_death z part d *ℤ t) k ey) s rows after e f
 
 -- a closing month counts one in its row under its category
 pub closing-none : (n : ℕ) (sp : Span) → sp.category ≡ 0 → (r c : ℕ) → span_closings n sp r c ≡ pos 0

@@ -1,5 +1,5 @@
 -- What the private functions of this layer answer: rows raised by amounts, and a span's part of them.
-use Rattle.std.specs.Prelude.{ℕ, ◌+◌, ◌*◌, ◌<◌, Bool, ◌&&◌, List, length, ℤ, pos, ◌+ℤ◌, FitsSigned, ◌==◌, nat_le, slice_index_or}
+use Rattle.std.specs.Prelude.{◌≡◌, ℕ, ◌+◌, ◌*◌, ◌<◌, ◌≤◌, Bool, ◌&&◌, List, length, ℤ, pos, ◌+ℤ◌, FitsSigned, ◌==◌, nat_le, slice_index_or}
 use Rattle.std.specs.Int.{w64}
 use Rattle.basics.specs.Limits.{cell_numbers}
 use Rattle.basics.specs.Pick.{pick}
@@ -9,6 +9,7 @@ use Rattle.claim_months.specs.declared.Span.{Span}
 use Rattle.claim_months.specs.declared.Window.{Window}
 use Rattle.claim_months.specs.Span.{span_weighted, span_closing, exposure_check}
 use Rattle.rates.specs.declared.Kind.{Kind}
+use Rattle.rates.specs.declared.Kind.TheVariants.{Prepared}
 use Rattle.rates.specs.design.Prepared.{recovery_of, death_of}
 use Rattle.study.specs.Sums.{column_at, is_count}
 use Rattle.study.specs.Study.{sum_over}
@@ -37,6 +38,17 @@ month_amount row thirtieths recoveries deaths r column =
 unfoldable pub span_months : (ℕ → ℤ) → (ℕ → ℤ) → ℕ → Span → ℕ → Amounts
 span_months recovery death n sp m r column =
     pick (is_count column) (pos 0) (span_weighted (row_weight n r (column_rate recovery death column)) sp m)
+
+-- The months of a span from its second on and before another are whole, of 30 thirtieths, with a rate that is the difference of two running sums of a
+-- prepared part, and with a row of their own
+pub record WholeTo (kind : Kind) (part : List ℕ) (n : ℕ) (sp : Span) (to : ℕ) : Type 0 where
+  pub low : 1 ≤ to
+  pub high : to ≤ sp.months
+  pub prepared : 1 < to → kind ≡ Prepared
+  pub part_long : 1 < to → length part ≡ cell_numbers
+  pub before_last : 1 < to → to < sp.months
+  pub with_rates : 1 < to → sp.first.0 + to ≤ 481
+  pub with_rows : 1 < to → sp.first.0 + to ≤ n + 1
 
 unfoldable pub span_closings : ℕ → Span → Amounts
 span_closings n sp r column = pick (is_count column) (pos (span_closing (λ d y. in_row n r d * pick (y == column) 1 0) sp)) (pos 0)
