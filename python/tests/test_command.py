@@ -15,7 +15,7 @@ from ltd_study.desk.command import parser
 
 from .support import LTD, PORTFOLIO, ROOT, DeskTest
 
-COMMANDS = ("pack", "map", "unpack", "rates", "rates pack", "rates unpack", "check", "months", "study", "years", "pool")
+COMMANDS = ("pack", "map", "unpack", "rates", "rates pack", "rates unpack", "check", "months", "study", "years", "durations", "pool")
 COMMANDS += ("total", "valuation", "reserve", "limit", "wanted", "small-company", "withdraw")
 WINDOW_WORDS = ("--window", "2010-03-01", "2014-12-31")
 
