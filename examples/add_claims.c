@@ -1,7 +1,7 @@
 /* cc -std=c99 -Iinclude -o add_claims examples/add_claims.c lib/libltd_study.a
 
    Compiled so in the folder of an unpacked release. With the shared library: -Llib -lltd_study -Wl,-rpath,'$ORIGIN/lib' at the end. In a
-   clone: target/staticlib/libc_file.a target/staticlib/libc_abi.a at the end.
+   clone: target/staticlib/libc_abi.a at the end.
 
    Adds the claims of a claim file to a study one by one and prints the sums of the five groups, one line a group: group, thirtieths, the five
    closing counts, expected recoveries, expected deaths.

@@ -14,9 +14,8 @@
      a load that anyone can rebuild      ltd_load_claim
      the version linked                  ltd_version
 
-   Link with libltd_study.so or libltd_study.a of a release; examples/add_claims.c begins with its compile line. A clone's target/staticlib has
-   the same calls in two libraries, of which neither needs the other: libc_file.a has ltd_file_study, ltd_prepare and
-   ltd_prepared_file_study, libc_abi.a all others.
+   Link with libltd_study.so or libltd_study.a of a release; examples/add_claims.c begins with its compile line. In a clone
+   target/staticlib/libc_abi.a has the same calls.
 
    A slice is a pointer and a length in elements. No call keeps a pointer or writes outside the lent lists. A null list has length 0.
    A list that is written may overlap no other list of the call. A longer list than asked for is taken, its rest untouched, unless a call

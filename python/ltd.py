@@ -29,7 +29,7 @@ from ltd_study.desk.command import main
 
 
 def build_calls() -> None:
-    """Proves and builds the static libraries, with a line for each crate on standard error."""
+    """Proves and builds the static library, with a line for each crate on standard error."""
     subprocess.run([str(BUILD_CALLS)], stdin=subprocess.DEVNULL, check=False)
 
 

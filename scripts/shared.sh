@@ -3,10 +3,10 @@
 
 # The clone's top folder.
 root=$(cd "$(dirname "${BASH_SOURCE[0]}")/.." && pwd)
-# The crates whose static libraries have the calls of include/ltd_study.h, and these libraries.
-libraries=(c_file c_abi)
-archives=()
-for library in "${libraries[@]}"; do archives+=("${LTD_LIB_DIR:-$root/target/staticlib}/lib$library.a"); done
+# The crate whose static library has the calls of include/ltd_study.h, and this library.
+library=c_abi
+# shellcheck disable=SC2034 # for the scripts
+archive=${LTD_LIB_DIR:-$root/target/staticlib}/lib$library.a
 
 fail() {
   echo "${me:-$0}: $1" >&2
@@ -116,8 +116,8 @@ build_program() {
   [ -x "$program" ] || build "$1"
 }
 
-# build_all NAME..: these programs and all static libraries.
-build_all() { build "$@" "${libraries[@]}"; }
+# build_all NAME..: these programs and the static library.
+build_all() { build "$@" "$library"; }
 
 # The commit, with a mark where files differ from it.
 commit_name() {

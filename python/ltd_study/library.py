@@ -1,7 +1,7 @@
 """The engine's calls, as ``include/ltd_study.h`` declares them.
 
 The shared object is the one that the environment variable LTD_STUDY_LIBRARY names. Without it, it is the one of the release that this
-module stands in: in ``lib/``, or beside the module's files where it was installed. In a clone it is linked with ``cc`` from the static libraries
+module stands in: in ``lib/``, or beside the module's files where it was installed. In a clone it is linked with ``cc`` from the static library
 in ``target/staticlib`` on first use, kept in ``target/desk/``, and linked again once these are newer.
 """
 
@@ -20,11 +20,11 @@ HERE = Path(__file__).resolve().parent
 ROOT = HERE.parents[1]
 SHARED_NAME = "libltd_study.so"
 SONAME = f"{SHARED_NAME}.1"
-STATIC_NAMES = ("libc_file.a", "libc_abi.a")
+STATIC_NAME = "libc_abi.a"
 _EXPORTS = "{ global: ltd_*; local: *; };\n"
 
 builder: Optional[Callable[[], None]] = None
-"""What builds missing static libraries: ./ltd sets it. Without it they are asked for."""
+"""What builds a missing static library: ./ltd sets it. Without it the library is asked for."""
 
 _byte, _u32, _i64, _u64 = ctypes.c_uint8, ctypes.c_uint32, ctypes.c_int64, ctypes.c_uint64
 _double, _size, _list = ctypes.c_double, ctypes.c_size_t, ctypes.c_void_p
@@ -115,31 +115,25 @@ def _module_version() -> str:
 
 
 def linked(static: Path, folder: Path, build: Optional[Callable[[], None]] = None) -> Path:
-    """The shared object in a folder, linked from the static libraries if it isn't there or is older than they are."""
-    archives = [static / name for name in STATIC_NAMES]
-    shared = folder / SHARED_NAME
-    if build is not None and _missing(archives):
+    """The shared object in a folder, linked from the static library if it isn't there or is older."""
+    archive, shared = static / STATIC_NAME, folder / SHARED_NAME
+    if build is not None and not archive.is_file():
         build()
-    missing = _missing(archives)
-    if missing:
+    if not archive.is_file():
         raise NoLibrary(
-            f"the engine isn't built: there is no '{missing[0]}'. Run '{ROOT / 'scripts' / 'build-calls'}' (all that it rests on is proved first, which "
+            f"the engine isn't built: there is no '{archive}'. Run '{ROOT / 'scripts' / 'build-calls'}' (all that it rests on is proved first, which "
             f"takes some minutes), or name the shared object of a release, lib/{SHARED_NAME}, in {VARIABLE}"
         )
-    if not _is_newer(shared, archives):
-        _link(archives, shared)
+    if not _is_newer(shared, archive):
+        _link(archive, shared)
     return shared
 
 
-def _missing(archives: List[Path]) -> List[Path]:
-    return [archive for archive in archives if not archive.is_file()]
+def _is_newer(shared: Path, archive: Path) -> bool:
+    return shared.is_file() and archive.stat().st_mtime_ns < shared.stat().st_mtime_ns
 
 
-def _is_newer(shared: Path, archives: List[Path]) -> bool:
-    return shared.is_file() and all(archive.stat().st_mtime_ns < shared.stat().st_mtime_ns for archive in archives)
-
-
-def _link(archives: List[Path], shared: Path) -> None:
+def _link(archive: Path, shared: Path) -> None:
     """Links under a temporary name, so that two first uses at once don't meet half an object; only the calls are exported."""
     compiler = shutil.which("cc")
     if compiler is None:
@@ -151,11 +145,11 @@ def _link(archives: List[Path], shared: Path) -> None:
     with tempfile.TemporaryDirectory(dir=shared.parent) as work:
         made, exports = Path(work) / shared.name, Path(work) / "exports"
         exports.write_text(_EXPORTS, encoding="ascii")
-        whole = ["-Wl,--whole-archive", *map(str, archives), "-Wl,--no-whole-archive"]
+        whole = ["-Wl,--whole-archive", str(archive), "-Wl,--no-whole-archive"]
         named = [f"-Wl,-soname,{SONAME}", f"-Wl,--version-script={exports}"]
         run = subprocess.run([compiler, "-shared", *named, "-o", str(made), *whole], capture_output=True, text=True, check=False)
         if run.returncode != 0:
-            raise NoLibrary(f"'cc' couldn't link the engine's static libraries:\n{run.stderr.strip()}")
+            raise NoLibrary(f"'cc' couldn't link the engine's static library:\n{run.stderr.strip()}")
         os.replace(made, shared)
 
 

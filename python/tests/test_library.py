@@ -1,4 +1,4 @@
-"""Where the calls come from: a shared object that is named, or linked from the static libraries on first use."""
+"""Where the calls come from: a shared object that is named, or linked from the static library on first use."""
 
 import os
 import shutil
@@ -15,7 +15,7 @@ from .support import DeskTest
 
 
 class Linking(DeskTest):
-    """Small static libraries with all the names stand in for the engine's."""
+    """A small static library with all the names stands in for the engine's."""
 
     version = 65536
 
@@ -23,18 +23,16 @@ class Linking(DeskTest):
         super().setUp()
         self.static, self.shared = self.folder / "staticlib", self.folder / "desk"
         self.static.mkdir()
-        names = list(library._CALLS)
-        self.archive("libc_file.a", [name for name in names if name.endswith("_study") or name == "ltd_prepare"])
-        self.archive("libc_abi.a", [name for name in names if not (name.endswith("_study") or name == "ltd_prepare")])
+        self.archive(list(library._CALLS))
 
-    def archive(self, name: str, calls: "list[str]", answer: int = 7) -> None:
+    def archive(self, calls: "list[str]", answer: int = 7) -> None:
         """A static library whose calls all answer the same, but for its version, and that has a name of its own."""
-        source, made = self.folder / f"{name}.c", self.folder / f"{name}.o"
+        source, made = self.folder / "calls.c", self.folder / "calls.o"
         answers = {call: self.version if call == "ltd_version" else answer for call in calls}
-        source.write_text("".join(f"unsigned {call}(void) {{ return {number}; }}\n" for call, number in answers.items()) + "int inner;\n" * (name == "libc_abi.a"))
+        source.write_text("".join(f"unsigned {call}(void) {{ return {number}; }}\n" for call, number in answers.items()) + "int inner;\n")
         subprocess.run(["cc", "-c", "-fPIC", "-o", str(made), str(source)], check=True)
-        (self.static / name).unlink(missing_ok=True)
-        subprocess.run(["ar", "rcs", str(self.static / name), str(made)], check=True)
+        (self.static / "libc_abi.a").unlink(missing_ok=True)
+        subprocess.run(["ar", "rcs", str(self.static / "libc_abi.a"), str(made)], check=True)
 
     def test_linked_once_and_again_when_older(self) -> None:
         path = linked(self.static, self.shared)
@@ -55,7 +53,7 @@ class Linking(DeskTest):
 
     def test_another_major_version(self) -> None:
         self.version = 2 * 65536 + 256 + 3
-        self.archive("libc_abi.a", [name for name in library._CALLS if not (name.endswith("_study") or name == "ltd_prepare")])
+        self.archive(list(library._CALLS))
         self.assertRaisesRegex(NoLibrary, r"is version 2\.1\.3 of the engine, and this module is version 1\.", load, linked(self.static, self.shared))
 
     def test_built_on_first_use(self) -> None:
@@ -71,7 +69,7 @@ class Linking(DeskTest):
         self.assertEqual(asked, [1])
 
     def test_a_build_that_fails(self) -> None:
-        (self.static / "libc_file.a").unlink()
+        (self.static / "libc_abi.a").unlink()
         self.assertRaisesRegex(NoLibrary, "the engine isn't built", linked, self.static, self.shared, lambda: None)
 
     def test_the_library_of_a_release(self) -> None:
@@ -87,7 +85,7 @@ class Linking(DeskTest):
             os.environ["LTD_STUDY_LIBRARY"] = "named.so"
             self.assertEqual(library.path_in_use(), Path("named.so"))
 
-    def test_missing_static_libraries(self) -> None:
+    def test_missing_static_library(self) -> None:
         (self.static / "libc_abi.a").unlink()
         with self.assertRaises(NoLibrary) as caught:
             linked(self.static, self.shared)
@@ -98,13 +96,13 @@ class Linking(DeskTest):
         with mock.patch.dict(os.environ, {"PATH": str(self.folder)}):
             self.assertRaisesRegex(NoLibrary, "C compiler 'cc', and there is none on the path", linked, self.static, self.shared)
 
-    def test_libraries_that_dont_link(self) -> None:
-        shutil.copy(self.static / "libc_abi.a", self.static / "libc_file.a")
-        self.assertRaisesRegex(NoLibrary, "'cc' couldn't link the engine's static libraries", linked, self.static, self.shared)
+    def test_a_library_that_doesnt_link(self) -> None:
+        (self.static / "libc_abi.a").write_text("no archive")
+        self.assertRaisesRegex(NoLibrary, "'cc' couldn't link the engine's static library", linked, self.static, self.shared)
         self.assertEqual(os.listdir(self.shared), [])
 
     def test_an_engine_of_another_version(self) -> None:
-        self.archive("libc_file.a", ["ltd_file_study", "ltd_prepare"])
+        self.archive([name for name in library._CALLS if name != "ltd_prepared_file_study"])
         path = linked(self.static, self.shared)
         self.assertRaisesRegex(NoLibrary, "has no ltd_prepared_file_study: it isn't the engine of this version", load, path)
 

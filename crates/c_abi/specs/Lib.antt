@@ -8,6 +8,7 @@ pub mod RecordCalls
 pub mod CompanyCalls
 pub mod LoadCalls
 pub mod BlockCalls
+pub mod FileCalls
 pub mod CorrectedCalls
 pub mod DurationCalls
 pub mod Version

@@ -1,5 +1,4 @@
-// The calls for the run of a whole claim file with corrections (document 02, No. 1), with plain rates or a prepared table. They stand here and not
-// beside the plain run, whose calls the compiler inlines only where nothing else in their library has them.
+// The calls for the run of a whole claim file with corrections (document 02, No. 1), with plain rates or a prepared table.
 ghost use Rattle.std.specs.Prelude.{◌≡◌};
 ghost use Rattle.std.proofs.lemmas.List.Edits.{sets};
 ghost use Rattle.rates.specs.declared.Kind.TheVariants.{Prepared};

@@ -1,4 +1,4 @@
-// The calls for C and Rust that include/ltd_study.h declares, but for the plain runs of whole files.
+// The calls for C and Rust that include/ltd_study.h declares.
 // Kept: a call with a rate table has a twin for a prepared one: both are exported names, which stay.
 #![tactic(auto)]
 
@@ -8,6 +8,7 @@ mod companies;
 mod corrected;
 mod durations;
 mod factors;
+mod files;
 mod listing;
 mod loads;
 mod study_calls;

@@ -35,6 +35,7 @@ fn day_if(asked: bool, date: Date) -> Option<Option<Day>>
 }
 
 // Check 2: the day numbers of the claim's dates.
+#[inline(always)]
 fn claim_days(claim: Claim) -> Option<ClaimDays>
     ensures { result ≡ pick (dates_sound claim) (Some (days_of claim)) None }
 {
@@ -98,6 +99,7 @@ fn days_check(dated: DatedClaim) -> Result<(), Refusal>
 }
 
 // The claim as a checked value, or the first of the checks 2 to 5 and 16 that fails.
+#[inline(always)]
 pub(crate) fn checked(claim: Claim) -> Result<CheckedClaim, Refusal>
     ensures { numbered result ≡ pick (eqb (claim_check claim) 0) (Ok (checked_of claim)) (Err (claim_check claim)) }
 {

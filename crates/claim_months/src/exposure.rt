@@ -73,6 +73,7 @@ fn month_b(first: Day, month: ClaimMonth) -> Thirtieths
 
 // Kept: compared by number, as in `exposed_months` and `claim_month`: by the derived order the proofs of the three didn't close.
 // The claim month that holds f, in a window from a day on. Unless BCD is before that day it is the first one, which starts on BCD.
+#[inline(always)]
 fn begin_month(claim: CheckedClaim, first: MonthDay) -> BeginMonth
     requires of_claim { OfClaim claim }
     requires placed { Placed first }
@@ -160,6 +161,7 @@ fn no_months() -> ExposedMonths
 }
 
 // The months of a checked claim in a sound window.
+#[inline(always)]
 pub(crate) fn exposed_months(claim: CheckedClaim, window: MonthWindow) -> ExposedMonths
     requires of_claim { OfClaim claim }
     requires sound_window { SoundWindow window }
@@ -185,6 +187,7 @@ pub(crate) fn exposed_months(claim: CheckedClaim, window: MonthWindow) -> Expose
 }
 
 // The span of a claim's months in a window that was looked at, or the first check that fails.
+#[inline(always)]
 pub fn span_in(claim: Claim, window: WindowMonths) -> Result<Span, Refusal>
     ensures { numbered result ≡ span_in claim window.window.first.0 window.window.last.0 }
 {

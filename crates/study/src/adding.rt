@@ -19,6 +19,7 @@ use rates::prepared::{RateTable, check_of, rate_table};
 use rates::{Cell, Kind};
 
 // The checks 6 to 9, told whether the lent sums are within their bounds, and a sound claim's share added to them.
+#[inline(always)]
 fn add_span(
     table: &RateTable,
     cell: Cell,
@@ -43,6 +44,7 @@ fn add_span(
 
 // Adds a claim to a study whose sums are lent, told whether they are within the bounds of refusal 9; table and window were looked at before. A refusal
 // leaves the sums as they were.
+#[inline(always)]
 pub fn add_to(
     table: &RateTable,
     claim: Claim,

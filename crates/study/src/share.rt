@@ -24,6 +24,7 @@ pub(crate) struct Share {
 }
 
 // The expected sums of months from a duration on: 30 thirtieths each, less those that the first and the last lack.
+#[inline(always)]
 fn band_rates(
     kind: Kind,
     part: &[u32],
@@ -89,6 +90,7 @@ impl Share {
     // Adds the span's months to the sums of their groups: one step for each group that the span touches.
     // Kept: `while`, as each step goes to its group's end, and no range has these steps.
     #[tactic(auto, using(crate::proofs::Places::group_range))]
+    #[inline(always)]
     pub(crate) fn add_months(self, kind: Kind, part: &[u32], sums: &mut [i64; 80])
         ensures { sums.new ≡ guarded_plus sums.old (share_by self.weight (months_figure (part_recovery kind part.now) (part_death kind part.now) self.span self.span.months)) }
     {

@@ -1,7 +1,7 @@
 //! Compares every call of the first implementation with the second one: document 01's examples, and seeded random inputs, long and short,
 //! sound and damaged. A mismatch prints the whole input and ends its test; the last line counts the tests.
 //!
-//! Run: LTD_LIB_DIR=(the directory of libc_file.a and libc_abi.a) cargo run --release --features first --bin compare [-- TEXT]
+//! Run: LTD_LIB_DIR=(the directory of libc_abi.a) cargo run --release --features first --bin compare [-- TEXT]
 //! With TEXT only the tests run whose name has it.
 
 mod benefits;

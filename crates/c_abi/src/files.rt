@@ -1,7 +1,4 @@
-// The calls for the study of a whole claim file, and for preparing a rate table. They have a static library of their own, since the
-// compiler inlines a claim's checks, span and adding into the run only where nothing else calls these.
-#![tactic(auto)]
-
+// The calls for the study of a whole claim file, and for preparing a rate table.
 ghost use Rattle.std.specs.Prelude.{◌≡◌};
 ghost use Rattle.std.proofs.lemmas.List.Edits.{sets};
 ghost use Rattle.rates.specs.declared.Kind.TheVariants.{Prepared};
@@ -10,7 +7,7 @@ ghost use Rattle.claim_file.specs.Run.{file_run_with, file_run};
 ghost use Rattle.claim_file.specs.design.PreparedRuns.{adding_with};
 ghost use Rattle.claim_file.specs.Runs.{run_by_number};
 ghost use Rattle.study_list.specs.Lent.{answered, stored};
-ghost use Rattle.c_file.specs.FileCalls.{run_numbers};
+ghost use Rattle.c_abi.specs.FileCalls.{run_numbers};
 
 use basics::refusal::number_refused;
 use claim_file::{FileRun, RunEnd};
@@ -18,7 +15,7 @@ use rates::Kind;
 use study_list::put_placed;
 
 // Stores number, block and place of a run, and its study, and answers the number.
-// Kept: what it answers is the C call's number, and 255 is no `Refusal`. Its twin `put_corrected` of `c_abi` is of another type of run: what both share is `put_placed`.
+// Kept: what it answers is the C call's number, and 255 is no `Refusal`. Its twin `put_corrected` is of another type of run: what both share is `put_placed`.
 #[tactic(auto, unfolding(crate::specs::FileCalls::run_numbers))]
 fn put_run(run: FileRun, out: &mut [i64]) -> u8
     ensures value { result ≡ answered 86 out.old (run_by_number run).refused }
