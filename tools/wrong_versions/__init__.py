@@ -5,9 +5,10 @@ words, over a copy (hard links) of that, the incremental folder, which has each 
 and all that it rests on are what was checked: so the changed function is lowered and proved anew against its own contract; the functions that it calls, and
 those that have nothing to do with it, are taken as they were. Its callers are only put together again: they see nothing of it but its contract.
 
-WRONG VERSIONS TOGETHER. So several functions can be wrong in one run, and each is judged by the errors in its own proof. Functions of one run never reach
-one another by calls, so that no proof waits for another one's theorem. Whatever has no error of its own in such a run is tried again alone, before it
-counts as proved. A change in specs/, in two files, or outside of a body is always tried alone.
+WRONG VERSIONS TOGETHER. Reading the crate takes most of a run, so many are judged in one: each stands behind the right function as one of its own, under
+another name, with the same contract and a copy of the proof (copies.py), and is judged by the errors there. Nothing calls it, so the proof of none waits for
+another's. Whatever has no error of its own in such a run is tried again alone, in the right function's place, before it counts as proved. A change in specs/,
+in two files or outside of a body, and a method of a trait, are always tried alone.
 
 NAMES. A proof cites goals and steps by names that the prover makes of the code, as `if-x-gt10` of `if x > 10`. Where a wrong version has another condition,
 and so another name, its proof files are read with the new name in the old one's place (names.py), and it is judged by what the prover then says.

@@ -1,7 +1,6 @@
 """The command line."""
 import argparse
 import collections
-import os
 import sys
 from concurrent.futures import ThreadPoolExecutor
 from pathlib import Path
@@ -9,7 +8,7 @@ from pathlib import Path
 from . import __doc__ as how
 from .listed import EQUIVALENT, computes_the_same, listed, listed_crates
 from .made_up import in_order, made_up
-from .prover import Prover, all_proved, crate_lines
+from .prover import AT_ONCE, Prover, all_proved, crate_lines
 from .trial import Trial
 from .version import Crate
 
@@ -22,8 +21,6 @@ USAGE = """tools/wrong-versions [--listed] [--sample N [--seed S] | --all] [CRAT
 The last line is 'N passed, M failed'. What is refused by a fact passes, and so does a made-up error that tests/wrong-versions/equivalent.txt has as one that
 computes the same, if it is proved. Misfits among made-up errors are counted apart, and fail where more than a tenth are. A table by crate stands before the
 last line. --repo names the folder with crates.txt, where rt proves the crates first; nothing else of it is written to."""
-# Crates tried side by side: a check takes a processor, and 1 to 4 GB.
-AT_ONCE = min(4, os.cpu_count() or 1)
 VERDICTS = ("numbers", "goal", "misfit", "same", "survived", "invalid", "unknown")
 MOST_MISFITS = 0.1
 

@@ -9,6 +9,8 @@ GOALS = re.compile(r"^help: `Goals` has no (?P<names>[^;\n]*); rattle asks for (
 NAMED = re.compile(r"module `[^`]*Goals` has no `(?P<name>[^`]+)` that can be named from here \(did you mean `(?P<there>[^`]+)`\?\)")
 # What stands before a condition in a name.
 BEFORE = {"if", "then", "else", "Then", "Else", "returns"}
+# How often the names of a version's proof are brought to the code's before it is a misfit.
+ROUNDS = 3
 # How much alike two names are at least.
 ALIKE = 0.5
 

@@ -3,10 +3,14 @@ import os
 import shutil
 import subprocess
 import tempfile
+import threading
 from pathlib import Path
 
 # Of the processor, for one run: a busy machine makes no verdict another.
-SECONDS = 600
+SECONDS = 1200
+# Runs side by side, of any crates: each takes a processor, and 1 to 4 GB.
+AT_ONCE = min(4, os.cpu_count() or 1)
+SIDE_BY_SIDE = threading.BoundedSemaphore(AT_ONCE)
 
 
 class Listed:
@@ -74,10 +78,10 @@ class Prover:
         self.folder = self.repo / "crates" / crate
         # Beside the system's other temporary files: rt refuses a file of Rattle or antt of the repository that stands in no crate.
         self.room = Path(tempfile.mkdtemp(prefix="wrong-versions-%s-" % crate))
-        self.kept, self.copy = self.room / "kept", self.room / "copy"
+        self.kept = self.room / "kept"
 
-    def words(self):
-        """As rt's own for `rattle check`, of the copy."""
+    def words(self, copy):
+        """As rt's own for `rattle check`, of a copy."""
         listed, home = self.lines[self.crate], self.kit / "rlibs"
         rlib = lambda name: self.repo / "crates" / name / "out/rlib" / (name + ".rlib")
         words = [self.kit / "bin/rattle", "check", "--crate-name", self.crate, "src/%s.rt" % ("main" if is_program(self.repo, self.crate) else "lib")]
@@ -90,39 +94,50 @@ class Prover:
             words += ["-L", "dependency=%s" % rlib(name).parent]
         words += ["--antt-project", self.kit / "rattle/logic/antt-project.json", "--logic-built", self.kit / "logic_built", "--jobs", "1"]
         words += ["--crate-type", "staticlib"] if listed.is_static else []
-        return [str(word) for word in words + ["--incremental", self.copy / "inc"]]
+        return [str(word) for word in words + ["--incremental", copy / "inc"]]
 
     def prepare(self):
         """Checks a copy of the crate as it is over what rt has kept of it, and keeps that: see all_proved."""
         if (self.folder / "out/incremental").is_dir():
             linked(self.folder / "out/incremental", self.kept)
         self.kept.mkdir(exist_ok=True)
-        status, said = self.run([])
+        with SIDE_BY_SIDE:
+            copy = self.write_copy([])
+            status, said = self.checked(copy)
         if status != 0 or "logic=proved" not in said:
             raise SystemExit("%s isn't proved as it is:\n%s" % (self.crate, said[-2000:]))
         shutil.rmtree(self.kept)
-        (self.copy / "inc").rename(self.kept)
+        (copy / "inc").rename(self.kept)
+        shutil.rmtree(copy)
 
     def remove(self):
         shutil.rmtree(self.room, ignore_errors=True)
 
     def write_copy(self, changes):
-        """A copy of the crate with some changes, beside a copy of what was kept."""
-        shutil.rmtree(self.copy, ignore_errors=True)
-        self.copy.mkdir()
+        """A copy of the crate with some changes, beside a copy of what was kept: its folder. A file that isn't there is a new one."""
+        copy = Path(tempfile.mkdtemp(dir=self.room))
         for part in ("src", "specs", "proofs"):
             if (self.folder / part).is_dir():
-                shutil.copytree(self.folder / part, self.copy / part)
+                shutil.copytree(self.folder / part, copy / part)
         for change in sorted(changes, key=lambda c: -c.start):
-            path = self.copy / change.file
-            text = path.read_text()
+            path = copy / change.file
+            path.parent.mkdir(parents=True, exist_ok=True)
+            text = path.read_text() if path.is_file() else ""
             path.write_text(text[:change.start] + change.new + text[change.end:])
-        linked(self.kept, self.copy / "inc")
+        linked(self.kept, copy / "inc")
+        return copy
+
+    def checked(self, copy):
+        words = ["prlimit", "--cpu=%d" % SECONDS, *self.words(copy)]
+        how = {"cwd": copy, "stdin": subprocess.DEVNULL, "stdout": subprocess.PIPE, "stderr": subprocess.STDOUT}
+        done = subprocess.run(words, text=True, errors="replace", **how)
+        return done.returncode, done.stdout.replace(str(copy) + "/", "")
 
     def run(self, changes):
         """Checks the crate with some changes: its exit status, below 0 where it ran out of time, and what was said."""
-        self.write_copy(changes)
-        words = ["prlimit", "--cpu=%d" % SECONDS, *self.words()]
-        how = {"cwd": self.copy, "stdin": subprocess.DEVNULL, "stdout": subprocess.PIPE, "stderr": subprocess.STDOUT}
-        done = subprocess.run(words, text=True, errors="replace", **how)
-        return done.returncode, done.stdout.replace(str(self.copy) + "/", "")
+        with SIDE_BY_SIDE:
+            copy = self.write_copy(changes)
+            try:
+                return self.checked(copy)
+            finally:
+                shutil.rmtree(copy, ignore_errors=True)

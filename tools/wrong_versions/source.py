@@ -53,10 +53,11 @@ def split_commas(tokens, i, j):
 
 
 class Function:
-    """A function of a file: the type that it is a method of, its name, its parameters' names and types, the tokens of its body."""
+    """A function of a file: the type that it is a method of, whether it is one of a trait's, its name, its parameters' names and types, the tokens of its
+    body."""
 
-    def __init__(self, file, text, tokens, owner, at):
-        self.file, self.text, self.tokens, self.owner, self.start = file, text, tokens, owner, tokens[at].start
+    def __init__(self, file, text, tokens, owner, of_trait, at):
+        self.file, self.text, self.tokens, self.owner, self.of_trait, self.at, self.start = file, text, tokens, owner, of_trait, at, tokens[at].start
         self.name = tokens[at + 1].text
         self.label = (owner + "::" if owner else "") + self.name
         self.module = "" if Path(file).stem in ("lib", "main") else Path(file).stem
@@ -113,16 +114,18 @@ def name_before(tokens, i):
 
 def functions_of(file, text):
     tokens = tokens_of(text)
-    found, owner, owner_end, i = [], "", -1, 0
+    found, owner, of_trait, owner_end, i = [], "", False, -1, 0
     while i < len(tokens):
-        owner = owner if i <= owner_end else ""
-        if tokens[i].kind == "name" and tokens[i].text == "impl":
+        owner, of_trait = (owner, of_trait) if i <= owner_end else ("", False)
+        if tokens[i].kind == "name" and tokens[i].text in ("impl", "trait"):
             opened = next_of(tokens, i, "{")
-            owner, owner_end, i = name_before(tokens, opened), closing(tokens, opened), opened + 1
+            of_trait = tokens[i].text == "trait" or any(t.text == "for" for t in tokens[i:opened])
+            owner = name_before(tokens, opened) if tokens[i].text == "impl" else ""
+            owner_end, i = closing(tokens, opened), opened + 1
         elif tokens[i].text == "extern" and tokens[i + 2].text == "{":
             i = closing(tokens, i + 2) + 1
         elif tokens[i].text == "fn" and tokens[i + 1].kind == "name":
-            function = Function(file, text, tokens, owner, i)
+            function = Function(file, text, tokens, owner, of_trait, i)
             found += [function] if function.has_body() else []
             i = function.last + 1
         else:

@@ -1,13 +1,14 @@
-"""Wrong versions tried, together where they are apart, and their verdicts."""
+"""Wrong versions tried, many in one run, and their verdicts."""
 import re
+from concurrent.futures import ThreadPoolExecutor
 from pathlib import Path
 
-from .names import respelled
+from .copies import Copy, placed
+from .names import ROUNDS, respelled
+from .prover import AT_ONCE
 from .version import Change, one_line
 
-TOGETHER = 12
-# How often the names of a version's proof are brought to the code's before it is a misfit.
-ROUNDS = 3
+TOGETHER = 16
 ERROR = re.compile(r"^(?:\./)?(?P<file>[^\s:]+):(?P<line>\d+):\d+: error(?:\[[\w-]+\])?: (?P<text>.*)$")
 # A goal without an answer in a file, for which the prover's own search finds no proof but numbers.
 FALSE = re.compile(r"^note: (?P<text>`[^`]+` of (?:\./)?(?P<file>\S+) may be false: .*)$")
@@ -49,6 +50,21 @@ def is_proof_of(file, function):
     if function.owner:
         return function.owner in parts[1:-2]
     return parts[1:-2] == ((function.module,) if function.module else ())
+
+
+def said_of(said, function):
+    """The lines about a function's proof, with the help that follows its own line."""
+    own, on = [], False
+    for line in said.splitlines():
+        m = ERROR.match(line)
+        if m:
+            on = is_proof_of(m["file"], function)
+        elif line.startswith("fn "):
+            on = line.split(": ")[0].split("::")[-1] == function.name
+        elif line[:1] not in (" ", "\t") and not line.startswith("help: "):
+            on = False
+        own += [line] if on else []
+    return "\n".join(own)
 
 
 def without_proof(said, function):
@@ -109,70 +125,68 @@ class Trial:
             version.note(*(verdict_of(errors, unproved) or ("misfit", "no error of its own: " + said[-200:])))
         return said
 
-    def lines(self, version, group):
-        """The lines of a version's function in the file with all changes of the group."""
-        f = version.function
-        shifts = [(c, c.new.count("\n") - f.text.count("\n", c.start, c.end)) for v in group for c in v.changes if c.file == f.file]
-        first = f.line(f.start) + sum(n for c, n in shifts if c.end <= f.start)
-        return first, f.line(f.end()) + sum(n for c, n in shifts if c.start <= f.end())
-
-    def without_invalid(self, group, errors):
-        """The group without those that the compiler refuses."""
+    def without_invalid(self, copies, lines, errors):
+        """The copies without those that the compiler refuses."""
         left = []
-        for version in group:
-            first, last = self.lines(version, group)
-            own = [e for e in errors if e[0] == version.function.file and first <= e[1] <= last]
+        for it in copies:
+            first, last = lines[it]
+            own = [e for e in errors if e[0] == it.function.file and first <= e[1] <= last]
             if own:
-                version.note("invalid", one_line(own[0][2])[:200])
+                it.version.note("invalid", one_line(own[0][2])[:200])
             else:
-                left.append(version)
+                left.append(it)
         return left
 
-    def judged(self, group, said):
-        """The group without those that a fact refuses, by an error of their own."""
-        left = []
-        for version in group:
-            errors = [e for e in errors_of(said) if is_proof_of(e[0], version.function)]
-            verdict = verdict_of(errors, without_proof(said, version.function))
+    def judged(self, copies, said):
+        """The copies without those that a fact refuses, by an error of their own: those whose proof has other names now, and the rest."""
+        again, rest = [], []
+        for it in copies:
+            errors = [e for e in errors_of(said) if is_proof_of(e[0], it.function)]
+            verdict = verdict_of(errors, without_proof(said, it.function))
             if verdict and verdict[0] != "misfit":
-                version.note(*verdict)
+                it.version.note(*verdict)
             else:
-                left.append(version)
-        return left
+                (again if verdict and it.is_renamed(said_of(said, it.function)) else rest).append(it)
+        return again, rest
+
+    def one_run(self, copies):
+        """Those that have to be tried in one run more, and those that it leaves without a verdict."""
+        changes, lines = placed(copies)
+        status, said = self.prover.run(changes)
+        if status < 0 or NO_VERDICT.search(said):
+            return [], copies
+        if "logic=" in said:
+            return self.judged(copies, said)
+        left = self.without_invalid(copies, lines, errors_of(said))
+        return (left, []) if len(left) < len(copies) else ([], copies)
 
     def together(self, group):
-        """Several in one run. Those that no fact refuses there are tried alone."""
-        while len(group) > 1:
-            status, said = self.prover.run([c for version in group for c in version.changes])
-            if status < 0 or NO_VERDICT.search(said):
-                break
-            if "logic=" in said:
-                group = self.judged(group, said)
-                break
-            left = self.without_invalid(group, errors_of(said))
-            if len(left) == len(group):
-                break
-            group = left
-        for version in group:
-            self.alone(version)
+        """Several in each run. Those that no fact refuses there are tried alone."""
+        copies, single = [Copy(version, number, self.proofs_of(version.function)) for number, version in enumerate(group)], []
+        while copies:
+            copies, rest = self.one_run(copies)
+            single += rest
+        for it in single:
+            self.alone(it.version)
 
-    def group_from(self, left):
-        """The first that is left, with those that are apart from it and from one another."""
-        group = [left.pop(0)]
-        for version in list(left) if group[0].function else []:
-            if len(group) < TOGETHER and version.function and all(self.crate.apart(version.function, v.function) for v in group):
-                group.append(version)
-                left.remove(version)
-        return group
+    def groups_of(self, versions):
+        """So many that a run's time is little beside the proofs'."""
+        single = [v for v in versions if v.stands_alone()]
+        others = [v for v in versions if not v.stands_alone()]
+        return [[v] for v in single] + [others[k:k + TOGETHER] for k in range(0, len(others), TOGETHER)]
+
+    def tried(self, group, tell):
+        if len(group) > 1:
+            self.together(group)
+        else:
+            self.alone(group[0])
+        tell(group)
 
     def go(self, versions, tell):
         """Tries each that has no verdict yet, and tells of each group's."""
-        left = [v for v in versions if v.verdict is None]
         tell([v for v in versions if v.verdict is not None])
-        while left:
-            group = self.group_from(left)
-            self.together(group)
-            tell(group)
+        with ThreadPoolExecutor(AT_ONCE) as pool:
+            list(pool.map(lambda group: self.tried(group, tell), self.groups_of([v for v in versions if v.verdict is None])))
 
     def some(self, versions, others, number, tell):
         """Tries all of the first ones, and of the others as many as the number from the start on, not counting those that the compiler refuses."""

@@ -27,13 +27,18 @@ class WrongVersion:
     def refused_by_fact(self):
         return self.verdict in ("numbers", "goal")
 
+    def stands_alone(self):
+        """Whether no copy of a function can hold it: it isn't in one's body, or a trait or the program asks for the function by its name."""
+        f = self.function
+        return f is None or f.of_trait or f.name == "main"
+
 
 def one_line(text):
     return re.sub(r"\s+", " ", text).strip()
 
 
 class Crate:
-    """The functions of a crate, who calls whom, and what all crates declare."""
+    """The functions of a crate, and what all crates declare."""
 
     def __init__(self, repo, name):
         self.name, self.folder = name, Path(repo, "crates", name)
@@ -41,7 +46,6 @@ class Crate:
         self.functions = []
         for path in sorted(Path(repo, "crates").glob("*/src/*.rt")):
             self.read(path)
-        self.reach = {id(f): self.reached(f) for f in self.functions}
 
     def read(self, path):
         text = path.read_text()
@@ -54,20 +58,3 @@ class Crate:
             self.signatures[f.name].add(tuple(kind for _, kind in f.parameters))
         if path.parent.parent == self.folder:
             self.functions += functions
-
-    def called_in(self, f):
-        names = {t.text for k, t in enumerate(f.tokens[:-1]) if f.first < k < f.last and t.kind == "name" and f.tokens[k + 1].text == "("}
-        return [g for g in self.functions if g.name in names and g is not f]
-
-    def reached(self, f):
-        """The functions that one reaches by calls, by the names in their bodies."""
-        seen, todo = set(), [f]
-        while todo:
-            for g in self.called_in(todo.pop()):
-                if id(g) not in seen:
-                    seen.add(id(g))
-                    todo.append(g)
-        return seen
-
-    def apart(self, f, g):
-        return f is not g and id(f) not in self.reach[id(g)] and id(g) not in self.reach[id(f)]
