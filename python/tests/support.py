@@ -1,5 +1,6 @@
 """What the tests share: random claims and rates, files of them, and the command run as a user runs it."""
 
+import argparse
 import csv
 import hashlib
 import io
@@ -13,12 +14,12 @@ import unittest
 from contextlib import redirect_stderr, redirect_stdout
 from datetime import date, timedelta
 from pathlib import Path
-from typing import Any, Callable, Dict, Iterable, List, NamedTuple, Optional, Sequence, Tuple
+from typing import Any, Callable, Dict, Iterable, List, NamedTuple, Optional, Sequence, Set, Tuple
 
 from ltd_study import Claim, ClaimFile, NoDate, Rates, write_claims
 from ltd_study.claim import COLUMNS
 from ltd_study.dates import FIRST, LAST
-from ltd_study.desk.command import main
+from ltd_study.desk.command import main, parser
 from ltd_study.rates import DURATIONS
 
 ROOT = Path(__file__).resolve().parents[2]
@@ -27,6 +28,20 @@ PORTFOLIO = ROOT / "examples" / "portfolio"
 SECOND_STUDY = Path(os.environ.get("LTD_SECOND_STUDY", ROOT / "target" / "second" / "release" / "second_study"))
 WINDOW = (date(2009, 1, 1), date(2017, 12, 31))
 LONGEST_RUN = 120
+
+
+def commands(of: Optional[argparse.ArgumentParser] = None, words: Tuple[str, ...] = ()) -> Dict[str, argparse.ArgumentParser]:
+    """Every command of ./ltd by its words, with its parser."""
+    of = of or parser()
+    kinds = [action for action in of._actions if isinstance(action, argparse._SubParsersAction)]  # pylint: disable=protected-access
+    if not kinds:
+        return {" ".join(words): of}
+    return {name: found for kind in kinds for word, own in kind.choices.items() for name, found in commands(own, (*words, word)).items()}
+
+
+def with_option(option: str) -> Set[str]:
+    """The commands that have an option."""
+    return {name for name, found in commands().items() if option in found._option_string_actions}  # pylint: disable=protected-access
 
 
 class Ended(NamedTuple):

@@ -13,10 +13,9 @@ from pathlib import Path
 
 from ltd_study.desk.command import parser
 
-from .support import LTD, PORTFOLIO, ROOT, DeskTest
+from .support import LTD, PORTFOLIO, ROOT, DeskTest, commands
 
-COMMANDS = ("pack", "map", "unpack", "rates", "rates pack", "rates unpack", "check", "months", "study", "years", "durations", "pool")
-COMMANDS += ("total", "valuation", "reserve", "limit", "wanted", "small-company", "withdraw")
+COMMANDS = ("rates", *commands())
 WINDOW_WORDS = ("--window", "2010-03-01", "2014-12-31")
 
 

@@ -9,9 +9,25 @@ from pathlib import Path
 import ltd_study
 from ltd_study import library, refusals, version
 
-from .support import ROOT, DeskTest
+from .support import PORTFOLIO, ROOT, DeskTest, with_option
 
 HEADER = (ROOT / "include" / "ltd_study.h").read_text(encoding="utf-8")
+
+_ONES = ("1.0",) * 5
+RUNS = {
+    "study": ("claims.claims", "rates.bin"),
+    "years": ("claims.claims", "rates.bin"),
+    "durations": ("claims.claims", "rates.bin"),
+    "pool": ("s.json",),
+    "total": ("s.json",),
+    "withdraw": ("s.json", PORTFOLIO / "mistaken.csv", "rates.bin"),
+    "valuation": ("rates.bin", "--t-of", "s.json"),
+    "reserve": ("rates.bin", "--cell", 0, "--first", 25, "--months", 120, "--v", 0.99754, "--t-of", "s.json"),
+    "limit": ("rates.bin", PORTFOLIO / "open.csv", "--v", 0.99754, "--t-of", "s.json"),
+    "wanted": ("--group", 3, "--t", "1.05", "--study", "s.json"),
+    "small-company": ("claims.claims", "--valuation-date", "2014-12-31", "--corrected", "--new-of", "s.json", "--old", *_ONES),
+}
+"""A run of each command that has JSON or a page."""
 
 
 def defined(name: str) -> str:
@@ -47,12 +63,18 @@ class Version(DeskTest):
 
     def test_pages_and_json_say_which_engine(self) -> None:
         self.example()
+        self.file("s.json", self.ltd("study", "claims.claims", "rates.bin", "--json").out)
+        self.assertEqual(with_option("--json") | with_option("--html"), set(RUNS), "each command with JSON or a page is run here")
         wanted = {name: dict(version.identity())[name] for name in ("engine", "sha256")}
-        for command in ("study", "years"):
-            found = json.loads(self.ltd(command, "claims.claims", "rates.bin", "--json", "--html", "x.html").out)
-            self.assertEqual(found["engine"], {"version": wanted["engine"], "sha256": wanted["sha256"]})
-            page = (self.folder / "x.html").read_text(encoding="utf-8")
-            self.assertIn(f"Engine: version {wanted['engine']}, sha256 {wanted['sha256']}", page)
+        for command, words in RUNS.items():
+            page = with_option("--html") & {command}
+            found = json.loads(self.ltd(command, *words, "--json", *(["--html", "x.html"] if page else [])).out)
+            self.assertEqual(found["engine"], {"version": wanted["engine"], "sha256": wanted["sha256"]}, command)
+            self.assertTrue(str(found["format"]).startswith("ltd "), command)
+            if page:
+                text = (self.folder / "x.html").read_text(encoding="utf-8")
+                self.assertIn(f"Engine: version {wanted['engine']}, sha256 {wanted['sha256']}", text, command)
+                (self.folder / "x.html").unlink()
 
     def test_the_refusals_of_the_header(self) -> None:
         names = {f"LTD_REFUSED_{word.upper().replace(' ', '_')}": str(number) for number, word in refusals.WORDS.items()}

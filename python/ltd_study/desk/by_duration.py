@@ -1,6 +1,5 @@
 """durations: the sums of each month of duration, as text, CSV, JSON and a page."""
 
-import json
 from argparse import ArgumentParser, Namespace
 from typing import Any, Callable, Dict, List
 
@@ -23,7 +22,7 @@ from .progress import Progress
 from .published import DURATIONS_FORMAT
 from .reports import LEFT_OUT, found_dict, found_table
 from .tables import Table, printed
-from .talk import DATA_REFUSED, DONE, DataRefused, WrongUse, put, put_bytes, say, say_note
+from .talk import DATA_REFUSED, DONE, DataRefused, WrongUse, put, put_bytes, put_json, say, say_note
 from .whole_files import write_whole
 
 ABOUT = (
@@ -97,7 +96,7 @@ def _show(asked: Namespace, chosen: Chosen, found: ByDuration) -> None:
         heading = Heading(asked.title or "Disability study by duration", lines, *made, chosen.notes)
         write_whole(asked.html, _page(heading, found, chosen.left_out).encode("utf-8", "backslashreplace"))
     if asked.json:
-        put(json.dumps(_as_dict(asked, chosen, found), indent=2) + "\n")
+        put_json(_as_dict(asked, chosen, found))
     elif asked.csv:
         put_bytes(csv_bytes(CSV_HEADER, [row for one in (whole, *found.parts) for row in csv_rows(one)]))
     else:

@@ -1,11 +1,10 @@
 """total: the committee's table of what carriers publish, as text, CSV, JSON and a page."""
 
 import argparse
-import json
 from argparse import Namespace
 from typing import Any, Callable, Dict, List, Optional, Sequence, Tuple
 
-from ..study import GROUPS, SUM_NAMES, GroupSums, total
+from ..study import SUM_NAMES, GroupSums, total
 from . import provenance, published
 from .charts import closings_chart, exposure_chart, group_bars, rate_chart, ratio_chart
 from .crude_rates import CRUDE_NOTE, KINDS, crude_rates
@@ -18,7 +17,7 @@ from .published import Published
 from .ratios import ratios_of
 from .reports import GROUP_COLUMNS, GroupFigures, beside_rows, beside_table, group_rows, set_tables, sums_dict
 from .tables import Column, Row, Table, printed
-from .talk import DATA_REFUSED, DONE, DataRefused, WrongUse, put, put_bytes, read_bytes, say
+from .talk import DATA_REFUSED, DONE, DataRefused, WrongUse, put, put_bytes, put_json, read_bytes, say
 from .totals import NO_FACTORS, Total, add_up, all_rows_beside, verdict
 from .whole_files import write_whole
 
@@ -67,7 +66,7 @@ def total_of_carriers(asked: Namespace) -> int:
         heading = Heading(asked.title or "Total of carriers", lines, sources, [rates, *provenance.lines(asked, "")])
         write_whole(asked.html, _page(heading, found, asked.weighted, words, holds).encode("utf-8", "backslashreplace"))
     if asked.json:
-        put(json.dumps(_as_dict(found, words, holds), indent=2) + "\n")
+        put_json(_as_dict(found, words, holds))
     elif asked.csv:
         put_bytes(csv_bytes(_CSV_HEADER, _csv_rows(found, asked.weighted)))
     else:

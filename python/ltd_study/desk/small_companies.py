@@ -1,6 +1,5 @@
 """small-company: whether a carrier keeps the table as it is."""
 
-import json
 from argparse import Namespace
 from typing import List
 
@@ -10,8 +9,9 @@ from ..study import GROUPS
 from .figures import counted, durations, millionths
 from .given_t import COMPANY_FORMAT, GivenT, given_t
 from .inputs import last_of_each, number_in, read_claim_list
+from .provenance import engine
 from .tables import Column, Row, Table, printed
-from .talk import DONE, DataRefused, WrongUse, put
+from .talk import DONE, DataRefused, WrongUse, put, put_json
 
 RECENT_BELOW = 50
 EARLIER_BELOW = 200
@@ -34,7 +34,7 @@ def small_company_rule(asked: Namespace) -> int:
     if asked.json:
         what = {"valuation_date": str(asked.valuation_date), "claims": len(records), "claims_sha256": source.sha256}
         figures = {**found._asdict(), "t": list(found.t), "new_t": list(new.t), "old_t": list(old.t)}
-        put(json.dumps({"format": COMPANY_FORMAT, "unit": "millionths", **what, **figures}, indent=2) + "\n")
+        put_json({"format": COMPANY_FORMAT, "unit": "millionths", **what, "engine": engine(), **figures})
     else:
         put(_text(asked, found, len(records), new, old))
     return DONE

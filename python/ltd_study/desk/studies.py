@@ -1,7 +1,6 @@
 """study, pool and years: tables, CSV, JSON and the page."""
 
 import hashlib
-import json
 from argparse import Namespace
 from typing import Any, Dict, List, NamedTuple, Optional, Sequence, Set, Tuple
 
@@ -39,7 +38,7 @@ from .reports import (
 )
 from .study_json import Pooled, SavedStudy, of_json, to_json
 from .tables import Column, Table, printed
-from .talk import DATA_REFUSED, DONE, DataRefused, WrongUse, put, put_bytes, read_bytes, say, say_note
+from .talk import DATA_REFUSED, DONE, DataRefused, WrongUse, put, put_bytes, put_json, read_bytes, say, say_note
 from .value_reports import VALUE_CSV_HEADER, value_dict, value_rows, value_tables
 from .values import ByValue, by_value, read_values
 from .whole_files import write_whole
@@ -263,7 +262,7 @@ def _show_years(asked: Namespace, verdict: Verdict, chosen: Chosen) -> None:
         page = years_page(heading, divided, asked.weighted, Judged(verdict.words, verdict.holds), listed)
         write_whole(asked.html, page.encode("utf-8", "backslashreplace"))
     if asked.json:
-        put(json.dumps(_years_dict(asked, verdict, chosen), indent=2) + "\n")
+        put_json(_years_dict(asked, verdict, chosen))
     elif asked.csv:
         put_bytes(csv_bytes(YEARS_CSV_HEADER, years_rows(divided, asked.weighted)))
     else:

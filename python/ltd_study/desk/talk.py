@@ -1,9 +1,10 @@
 """What the command reads, says and ends with."""
 
 import hashlib
+import json
 import os
 import sys
-from typing import Tuple
+from typing import Any, Dict, Tuple
 
 from .. import dates
 from ..claim_file import ClaimFile
@@ -42,6 +43,11 @@ def say_note(note: str) -> None:
 def put(text: str) -> None:
     """Text on standard output, all of it."""
     put_bytes(text.encode("utf-8", "backslashreplace"))
+
+
+def put_json(found: Dict[str, Any]) -> None:
+    """JSON on standard output."""
+    put(json.dumps(found, indent=2) + "\n")
 
 
 def put_bytes(data: bytes) -> None:

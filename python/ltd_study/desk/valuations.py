@@ -1,7 +1,6 @@
 """valuation, reserve, limit and wanted: what the valuation actuary asks of a study's T."""
 
 import io
-import json
 from argparse import Namespace
 from typing import Any, Dict, List, Sequence, Tuple
 
@@ -13,8 +12,9 @@ from .csv_rows import Faults, csv_bytes, header_places, numbered_rows, text_of, 
 from .figures import closings, counted, durations, millionths, whole
 from .given_t import LIMIT_FORMAT, GivenT, given_t, group_3_count
 from .inputs import must_be_sound
+from .provenance import engine
 from .tables import Column, Row, Table, printed
-from .talk import DONE, DataRefused, WrongUse, put, put_bytes, read_bytes, read_rates
+from .talk import DONE, DataRefused, WrongUse, put, put_bytes, put_json, read_bytes, read_rates
 
 OPEN_COLUMNS = ("cell", "duration", "months")
 MOST_OPEN = 2_000
@@ -48,7 +48,7 @@ def valuation(asked: Namespace) -> int:
     if asked.json:
         figures = [dict(zip(_VALUATION_HEADER, row)) for row in rows]
         head = {"format": "ltd valuation 1", "unit": "millionths", "t": list(given.t), "rates_sha256": source.sha256}
-        put(json.dumps({**head, "rates": figures}, indent=2) + "\n")
+        put_json({**head, "engine": engine(), "rates": figures})
     elif asked.csv:
         put_bytes(csv_bytes(_VALUATION_HEADER, rows))
     else:
@@ -96,7 +96,7 @@ def reserve(asked: Namespace) -> int:
         raise DataRefused(f"cell {asked.cell}, duration {asked.first}, {counted(asked.months, 'month')}, v {asked.v!r}: {refused}") from None
     if asked.json:
         what = {"cell": asked.cell, "first": asked.first, "months": asked.months, "v": asked.v, "t": list(given.t), "rates_sha256": source.sha256}
-        put(json.dumps({"format": "ltd reserve 1", **what, "factor": found}, indent=2) + "\n")
+        put_json({"format": "ltd reserve 1", "units": {"t": "millionths"}, **what, "engine": engine(), "factor": found})
         return DONE
     lines = [
         f"Reserve factor {found!r}",
@@ -126,7 +126,7 @@ def limit(asked: Namespace) -> int:
     if asked.json:
         what: Dict[str, Any] = {"given_t": list(given.t), "group_3_count": count, "v": asked.v, "open_claims": len(claims)}
         totals = {"total_given": found.given, "total_replaced": found.replaced, "replaced": replaced, "t": list(found.t)}
-        put(json.dumps({"format": LIMIT_FORMAT, "unit": "millionths", **what, "rates_sha256": source.sha256, **totals}, indent=2) + "\n")
+        put_json({"format": LIMIT_FORMAT, "unit": "millionths", **what, "rates_sha256": source.sha256, "engine": engine(), **totals})
     else:
         put(_limit_text(asked, given, count, len(claims), found))
     return DONE
@@ -215,7 +215,8 @@ def wanted(asked: Namespace) -> int:
     below = None if count == 0 else factor(asked.group, count - 1, expected).t
     if asked.json:
         what = {"group": asked.group, "expected": expected, "wanted_t": asked.t, "count": count, "t": reached, "t_below": below}
-        put(json.dumps({"format": "ltd wanted 1", "unit": "millionths", **what, "actual": None if sums is None else sums.terminations}, indent=2) + "\n")
+        actual = None if sums is None else sums.terminations
+        put_json({"format": "ltd wanted 1", "unit": "millionths", **what, "actual": actual, "engine": engine()})
         return DONE
     lines = [
         f"{counted(count, 'recovery or death', 'recoveries and deaths')} reach a T of {millionths(asked.t)} in group {asked.group}, durations "
