@@ -231,7 +231,8 @@ class OfCarriers(DeskTest):
         self.assertIn("at every duration; every difference is 0.", ended.out)
         page = Page((self.folder / "x.html").read_text())
         self.assertEqual([row[0] for row in page.tables["Sums by duration"][1:]], [*map(str, range(1, 121)), "over 120", "all"])
-        self.assertEqual([row[4] for row in page.tables["What was added"][1:4]], ["durations", "durations by year", "durations by year"])
+        head, *rows = page.tables["What was added"]
+        self.assertEqual([row[head.index("published")] for row in rows], ["durations", "durations by year", "durations by year", ""])
         self.assertEqual(len(page.drawings), 2)
         found = json.loads(self.ltd("total", "0.json", "1.json", "--json").out)
         self.assertEqual(len(found["rows"]), 122)
@@ -246,6 +247,10 @@ class OfCarriers(DeskTest):
         for place, value, reason in (
             (("rows", 30, "recovery"), -1, "no count is negative|from the sums follows"),
             (("rows", 30, "recovery_rate"), 0.5, "from the sums follows"),
+            (("groups", 1, "death"), 999, "groups 2: death is 999, and from the sums follows"),
+            (("groups", 2, "recovery_rate"), 0.5, "groups 3: recovery_rate is 0.5, and from the sums follows"),
+            (("all", "thirtieths"), 5, "all: thirtieths is 5, and from the sums follows"),
+            (("parts", 2, "groups", 3, "expected"), 7, "groups 4: expected is 7, and from the sums follows"),
             (("claims_taken",), 0, "a claim closes once"),
             (("parts", 2, "rows", 40, "thirtieths"), 1, "from the sums follows|do not total"),
             (("parts", 2, "first"), "2011-01-02", "do not follow one another"),

@@ -157,6 +157,104 @@ class Totals(Carriers):
         self.assertIn("'0.json' and 'other.json' are of the same claims, and their sums of the window differ", self.refused("0.json", "other.json"))
 
 
+class LeftOut(DeskTest):
+    """Claims left out and numbers repeated are told as study and pool tell them, carrier by carrier."""
+
+    KINDS = (("study",), ("years",), ("durations",), ("durations", "--by-year"))
+    NOTES = (
+        "6 claims are refused and left out, as its study lists",
+        "2 claim numbers stand more than once in one study, and every record counts",
+    )
+
+    def setUp(self) -> None:
+        super().setUp()
+        self.example()
+        for i, words in enumerate(self.KINDS):
+            self.saved(f"first{i}.json", *words, "claims.claims", "--carrier", "First")
+            self.saved(f"second{i}.json", *words, "faulty.claims", "--accepted")
+            self.saved(f"third{i}.json", *words, "affiliate.claims")
+
+    def saved(self, name: str, *words: str) -> None:
+        """What a carrier publishes."""
+        self.file(name, self.ltd(*words, "rates.bin", "--json").out)
+
+    def counts(self, *words: str) -> List[Tuple[str, int, int]]:
+        """By carrier, of the JSON."""
+        found = json.loads(self.ltd("total", *words, "--json").out)["carriers"]
+        return [(one["carrier"], one["repeated_numbers"], one["left_out"]) for one in found]
+
+    def test_each_kind(self) -> None:
+        for i, words in enumerate(self.KINDS):
+            names = [f"{name}{i}.json" for name in ("first", "second", "third")]
+            self.assertEqual(self.counts(*names), [("First", 2, 0), (names[1], 0, 6), (names[2], 0, 0)], words)
+            for form in ((), ("--csv",), ("--json",)):
+                ended = self.ltd("total", *names, *form, "--html", "t.html")
+                self.assertEqual([line for line in ended.err.splitlines() if "note: " in line], [f"ltd: note: {note}" for note in self.NOTES])
+                self.assertEqual([line for line in ended.out.splitlines() if "note: " in line], [] if form else [f"note: {note}" for note in self.NOTES])
+            page = Page((self.folder / "t.html").read_text(encoding="utf-8"))
+            for note in self.NOTES:
+                self.assertIn(f"Note: {note}.", page.texts["p"])
+            head, *rows = page.tables["What was added"]
+            named = [dict(zip(head, row)) for row in rows]
+            self.assertEqual([(row["carrier"], row["numbers repeated"], row["left out"]) for row in named],
+                             [("First", "2", "0"), (names[1], "0", "6"), (names[2], "0", "0"), ("all", "2", "6")])
+            self.assertRegex(self.ltd("total", *names).out, r"(?m)^First +47 +\d+  without +2 +0  ")
+
+    def test_the_words_are_those_of_a_pool(self) -> None:
+        names = ("first0.json", "second0.json")
+        self.assertEqual(self.ltd("total", *names).err, self.ltd("pool", *names).err)
+        self.assertIn(self.NOTES[0], self.ltd("total", *names).err)
+
+    def test_a_pool(self) -> None:
+        self.file("pool.json", self.ltd("pool", "first0.json", "second0.json", "--json").out)
+        self.assertEqual(self.counts("pool.json", "third0.json"), [("pool.json", 2, 6), ("third0.json", 0, 0)])
+
+    def test_a_study_and_its_years_count_once(self) -> None:
+        for first, second in ((0, 1), (2, 3)):
+            self.assertEqual(self.counts(f"first{first}.json", f"first{second}.json", f"second{second}.json"), [("First", 2, 0), (f"second{second}.json", 0, 6)])
+
+    def test_nothing_to_tell(self) -> None:
+        for i in range(len(self.KINDS)):
+            ended = self.ltd("total", f"third{i}.json", "--html", "t.html")
+            self.assertEqual(("note: " in ended.out, ended.err), (False, ""))
+            self.assertNotIn('class="note"', (self.folder / "t.html").read_text(encoding="utf-8"))
+
+    def test_the_same_claims_again(self) -> None:
+        ended = self.ltd("total", "third0.json", "third0.json", "--again", "--html", "t.html")
+        note = "1 study is of a claim file that is in the total already (--again), and its claims count again"
+        self.assertEqual(ended.err, f"ltd: note: {note}\n")
+        self.assertIn(f"\nnote: {note}\n", ended.out)
+        self.assertIn(f"Note: {note}.", (self.folder / "t.html").read_text(encoding="utf-8"))
+
+    EDITS: Tuple[Tuple[Callable[[Dict[str, Any]], Any], str], ...] = (
+        (lambda found: found.pop("repeated_numbers"), "missing or not as it was saved: 'repeated_numbers'"),
+        (lambda found: found.pop("left_out"), "missing or not as it was saved: 'left_out'"),
+        (lambda found: found.update(repeated_numbers=["x"]), "a repeated number is no whole number"),
+        (lambda found: found.update(repeated_numbers=2), "missing or not as it was saved"),
+        (lambda found: found.update(left_out=6), "missing or not as it was saved"),
+        (lambda found: found["left_out"][1].update(word="full"), "left_out 2: word is "),
+        (lambda found: found["left_out"][0].update(refused=99), "missing or not as it was saved: 99"),
+    )
+
+    def test_edits_are_refused(self) -> None:
+        for i in range(len(self.KINDS)):
+            for edit, message in self.EDITS:
+                found = json.loads((self.folder / f"second{i}.json").read_text())
+                edit(found)
+                self.file("edited.json", json.dumps(found))
+                ended = self.ltd("total", "edited.json", status=1)
+                self.assertIn("ltd: 'edited.json': ", ended.err)
+                self.assertIn(message, ended.err)
+
+    def test_a_study_and_years_that_differ(self) -> None:
+        for name, value in (("repeated_numbers", [5]), ("left_out", [])):
+            found = json.loads((self.folder / "second1.json").read_text())
+            self.file("edited.json", json.dumps({**found, name: value}))
+            ended = self.ltd("total", "second0.json", "edited.json", status=1)
+            said = "'second0.json' and 'edited.json' are of the same claims, and their claims left out or numbers repeated differ"
+            self.assertEqual((ended.out, ended.err), ("", f"ltd: {said}\n"))
+
+
 class EditedFiles(Carriers):
     """Every figure of a file is checked against its sums."""
 

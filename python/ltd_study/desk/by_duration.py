@@ -6,15 +6,15 @@ from typing import Any, Callable, Dict, List
 from ..claim_file import ClaimFile, RefusedFile, file_study
 from ..duration_rows import MOST_ROWS, USUAL_ROWS, RefusedDurations
 from ..duration_rows import durations as duration_rows
-from ..study import Study, total
+from ..study import Study
 from . import parts as cutting
 from . import provenance
 from .charts import rate_chart
 from .checking import Found
-from .choosing import Chosen, choose
+from .choosing import Chosen, choose, say_left_out
 from .crude_rates import CRUDE_NOTE, KINDS
 from .csv_rows import csv_bytes
-from .duration_reports import CSV_HEADER, ByDuration, OfPart, csv_rows, part_dict, part_tables
+from .duration_reports import CSV_HEADER, ByDuration, OfPart, all_dict, csv_rows, part_dict, part_tables
 from .figures import counted
 from .page import NOTES, Heading, Judged, Section, page_of
 from .parts import Part
@@ -56,6 +56,7 @@ def durations(asked: Namespace) -> int:
     chosen = choose(asked)
     found = _by_duration(asked, chosen)
     _show(asked, chosen, found)
+    say_left_out(asked, chosen.left_out)
     if not found.holds:
         say(found.words)
     return DONE if found.holds else DATA_REFUSED
@@ -121,7 +122,7 @@ def _tables(found: ByDuration) -> List[Table]:
 
 def _as_dict(asked: Namespace, chosen: Chosen, found: ByDuration) -> Dict[str, Any]:
     whole = found.whole
-    parts = [{"label": one.part.label, "first": str(one.part.first), "last": str(one.part.last), **part_dict(one)} for one in found.parts]
+    parts = [{"label": one.part.label, "first": str(one.part.first), "last": str(one.part.last), **part_dict(one.found)} for one in found.parts]
     return {
         "format": DURATIONS_FORMAT,
         "window": {"first": str(whole.part.first), "last": str(whole.part.last)},
@@ -133,7 +134,7 @@ def _as_dict(asked: Namespace, chosen: Chosen, found: ByDuration) -> Dict[str, A
         "repeated_numbers": chosen.repeated,
         "left_out": [found_dict(one) for one in chosen.left_out],
         "adds_up": found.holds,
-        **part_dict(whole),
-        "all": dict(total(whole.found.rows)._asdict()),
+        **part_dict(whole.found),
+        "all": all_dict(whole.found),
         "parts": parts,
     }

@@ -2,7 +2,7 @@
 
 import io
 from argparse import Namespace
-from typing import Dict, Iterator, List, NamedTuple, Optional, Tuple
+from typing import Dict, Iterator, List, NamedTuple, Optional, Sequence, Tuple
 
 from .. import dates
 from ..claim_file import ClaimFile, Record, RefusedFile, file_study, last_places, record_count, repeated_numbers, write_claims
@@ -12,11 +12,12 @@ from ..study import Study
 from . import repeats
 from .broken_rules import broken_rule, too_many_words
 from .checking import OWN_REFUSALS, Checked, Found
+from .claim_notes import left_out_note
 from .csv_lines import with_lines
-from .figures import counted
 from .page import Source
 from .progress import Progress
-from .talk import DataRefused, must_be_window, read_claims, read_rates
+from .talk import DataRefused, must_be_window, read_claims, read_rates, say
+
 
 class Chosen(NamedTuple):
     """Claims to study, and what was chosen of their file."""
@@ -77,11 +78,7 @@ class Chosen(NamedTuple):
     @property
     def notes(self) -> List[str]:
         """What a reader must not miss."""
-        notes = []
-        if self.left_out:
-            are = "is" if len(self.left_out) == 1 else "are"
-            notes.append(f"{len(self.left_out):,} of {counted(self.looked_at, 'claim')} {are} refused and left out")
-        return notes + [note for note in [repeats.note(self.repeated)] if note]
+        return [note for note in (left_out_note(len(self.left_out), self.looked_at), repeats.note(self.repeated)) if note]
 
 
 def choose(asked: Namespace) -> Chosen:
@@ -120,3 +117,9 @@ def _accepted(chosen: Chosen) -> Chosen:
     out = io.BytesIO()
     write_claims(out, *chosen.whole.window(), (record.data for _, record in without.counted()))
     return without._replace(file=ClaimFile(out.getvalue()))
+
+
+def say_left_out(asked: Namespace, left_out: Sequence[Found]) -> None:
+    """CSV has no place for the claims left out: they are told beside it."""
+    for found in left_out if asked.csv else ():
+        say(f"left out: claim number {found.number}, {Refused(found.refused, found.block, found.place)}: {found.why}")

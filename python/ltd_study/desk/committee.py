@@ -7,6 +7,7 @@ from typing import Any, Callable, Dict, List, Optional, Sequence, Tuple
 from ..study import SUM_NAMES, GroupSums, total
 from . import provenance, published
 from .charts import closings_chart, exposure_chart, group_bars, rate_chart, ratio_chart
+from .claim_notes import COUNT_COLUMNS, count_cells
 from .crude_rates import CRUDE_NOTE, KINDS, crude_rates
 from .csv_rows import csv_bytes
 from .duration_reports import duration_tables
@@ -17,8 +18,8 @@ from .published import Published
 from .ratios import ratios_of
 from .reports import GROUP_COLUMNS, GroupFigures, beside_rows, beside_table, group_rows, set_tables, sums_dict
 from .tables import Column, Row, Table, printed
-from .talk import DATA_REFUSED, DONE, DataRefused, WrongUse, put, put_bytes, put_json, read_bytes, say
-from .totals import NO_FACTORS, Total, add_up, all_rows_beside, verdict
+from .talk import DATA_REFUSED, DONE, DataRefused, WrongUse, put, put_bytes, put_json, read_bytes, say, say_note
+from .totals import NO_FACTORS, Entry, Total, add_up, all_rows_beside, verdict
 from .whole_files import write_whole
 
 FORMAT = "ltd total 1"
@@ -60,18 +61,21 @@ def total_of_carriers(asked: Namespace) -> int:
         f"{found.window.first} to {found.window.last}: {counted(found.claims_taken, 'claim')} taken by {counted(len(found.entries), 'carrier')}",
         NO_FACTORS,
     ]
+    for note in found.notes:
+        say_note(note)
     if asked.html is not None:
         sources = [Source("file", file.name, file.sha256) for file in files]
         rates = f"Rate table: sha256 {files[0].rates_sha256}"
-        heading = Heading(asked.title or "Total of carriers", lines, sources, [rates, *provenance.lines(asked, "")])
+        heading = Heading(asked.title or "Total of carriers", lines, sources, [rates, *provenance.lines(asked, "")], found.notes)
         write_whole(asked.html, _page(heading, found, asked.weighted, words, holds).encode("utf-8", "backslashreplace"))
     if asked.json:
         put_json(_as_dict(found, words, holds))
     elif asked.csv:
         put_bytes(csv_bytes(_CSV_HEADER, _csv_rows(found, asked.weighted)))
     else:
-        notes = [f"{POISSON_WORDS}.", CRUDE_NOTE, *[words] * bool(words)]
-        put("\n".join(["Total of " + "\n".join(lines) + "\n", *map(printed, _tables(found, asked.weighted)), *notes]) + "\n")
+        top = "\n".join([*lines, *(f"note: {note}" for note in found.notes)])
+        foot = [f"{POISSON_WORDS}.", CRUDE_NOTE, *[words] * bool(words)]
+        put("\n".join([f"Total of {top}\n", *map(printed, _tables(found, asked.weighted)), *foot]) + "\n")
     if not holds:
         say(words)
     return DONE if holds else DATA_REFUSED
@@ -99,15 +103,22 @@ def _figure_tables(found: Total, weighted: bool) -> List[Table]:
 
 def _file_table(found: Total) -> Table:
     columns = (Column("carrier", left=True, wraps=True), Column("claims", "taken"), Column("closings"), Column("corrections", left=True))
-    columns += (Column("published", left=True), Column("files", f"sha256, first {_HASH_SHOWN} digits", left=True, wraps=True))
+    columns += (*COUNT_COLUMNS, Column("published", left=True), Column("files", f"sha256, first {_HASH_SHOWN} digits", left=True, wraps=True))
     rows = []
     for entry in found.entries:
         closed = sum(row.count.closings for row in entry.whole.rows)
         kinds = " and ".join(file.kind for file in entry.files)
         names = ", ".join(f"{file.name} {file.sha256[:_HASH_SHOWN]}" for file in entry.files)
-        rows.append(Row((entry.carrier, whole(entry.whole.claims_taken), whole(closed), "with" if entry.whole.corrected else "without", kinds, names)))
+        sums = entry.carrier, whole(entry.whole.claims_taken), whole(closed)
+        rows.append(Row((*sums, "with" if entry.whole.corrected else "without", *_counts([entry]), kinds, names)))
     closed = sum(row.count.closings for row in found.rows)
-    return Table("What was added", columns, [*rows, Row(("all", whole(found.claims_taken), whole(closed), "", "", ""), summary=True)])
+    last = Row(("all", whole(found.claims_taken), whole(closed), "", *_counts(found.entries), "", ""), summary=True)
+    return Table("What was added", columns, [*rows, last])
+
+
+def _counts(entries: Sequence[Entry]) -> Tuple[str, str]:
+    """Numbers repeated and claims left out, of some carriers together."""
+    return count_cells(sum(entry.whole.repeated_numbers for entry in entries), sum(entry.whole.left_out for entry in entries))
 
 
 def _crude_table(groups: Sequence[GroupFigures]) -> Table:
@@ -200,6 +211,8 @@ def _as_dict(found: Total, words: str, holds: bool) -> Dict[str, Any]:
             "claims_sha256": entry.whole.claims_sha256 or None,
             "claims_taken": entry.whole.claims_taken,
             "corrected": entry.whole.corrected,
+            "repeated_numbers": entry.whole.repeated_numbers,
+            "left_out": entry.whole.left_out,
         }
         for entry in found.entries
     ]

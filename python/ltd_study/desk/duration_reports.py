@@ -1,6 +1,6 @@
 """What durations are shown as: a table for text and page, rows for CSV, figures for JSON."""
 
-from typing import Callable, Dict, List, NamedTuple, Optional, Sequence, Tuple, Union
+from typing import Any, Callable, Dict, List, NamedTuple, Optional, Sequence, Tuple, Union
 
 from ..duration_rows import Durations
 from ..study import GROUPS, SUM_NAMES, GroupSums, Study, total
@@ -37,19 +37,26 @@ class OfPart(NamedTuple):
     @property
     def groups(self) -> List[int]:
         """The groups whose durations have rows of their own: those before the last row's, and the last group where its own row begins it."""
-        last = len(self.found.rows)
-        return [group for group, (_, end) in enumerate(GROUPS, 1) if last > (GROUPS[-2][1] or 0) or (end is not None and end < last)]
+        return _groups(len(self.found.rows))
 
     def of_group(self, group: int) -> GroupSums:
         """The total of a group's rows."""
-        first, end = GROUPS[group - 1]
-        return total(self.found.rows[first - 1 : end])
+        return _of_group(self.found.rows, group)
 
     @property
     def totals_hold(self) -> bool:
         """Whether each group's rows total the study's group, all rows together all groups, and both took as many claims."""
         groups = all(self.of_group(group) == self.study.groups[group - 1] for group in self.groups)
         return groups and total(self.found.rows) == total(self.study.groups) and self.found.claims_taken == self.study.claims_taken
+
+
+def _groups(rows: int) -> List[int]:
+    return [group for group, (_, end) in enumerate(GROUPS, 1) if rows > (GROUPS[-2][1] or 0) or (end is not None and end < rows)]
+
+
+def _of_group(rows: Sequence[GroupSums], group: int) -> GroupSums:
+    first, end = GROUPS[group - 1]
+    return total(rows[first - 1 : end])
 
 
 class ByDuration(NamedTuple):
@@ -155,8 +162,13 @@ def row_dict(band: Band, sums: GroupSums) -> Dict[str, Figure]:
     return {"first_duration": band[0], "last_duration": band[1], **sums_dict(sums), **rates, **expected}
 
 
-def part_dict(one: OfPart) -> Dict[str, object]:
+def part_dict(found: Durations) -> Dict[str, Any]:
     """A window or a part of it for JSON."""
-    rows = [row_dict(band, sums) for band, sums in zip(one.bands, one.found.rows)]
-    groups = [{"group": group, **row_dict(GROUPS[group - 1], one.of_group(group))} for group in one.groups]
-    return {"claims_taken": one.found.claims_taken, "rows": rows, "groups": groups}
+    rows = [row_dict(band, sums) for band, sums in zip(bands(len(found.rows)), found.rows)]
+    groups = [{"group": group, **row_dict(GROUPS[group - 1], _of_group(found.rows, group))} for group in _groups(len(found.rows))]
+    return {"claims_taken": found.claims_taken, "rows": rows, "groups": groups}
+
+
+def all_dict(found: Durations) -> Dict[str, int]:
+    """All rows together, for JSON."""
+    return dict(total(found.rows)._asdict())

@@ -2,7 +2,8 @@
 
 from typing import List, Sequence
 
-from .figures import counted, whole
+from .claim_notes import COUNT_COLUMNS, count_cells, together_notes
+from .figures import whole
 from .repeats import CORRECTED
 from .study_json import Pooled
 from .tables import Column, Row, Table
@@ -11,10 +12,10 @@ from .tables import Column, Row, Table
 def pooled_table(together: Sequence[Pooled]) -> Table:
     """The files with carrier, claims taken and hash."""
     columns = (Column("file", left=True, wraps=True), Column("carrier", left=True, wraps=True), Column("claims taken"), Column("corrected", left=True))
-    columns += (Column("numbers repeated"), Column("left out"), Column("sha256 of the claims", left=True, wraps=True))
+    columns += (*COUNT_COLUMNS, Column("sha256 of the claims", left=True, wraps=True))
     rows = []
     for one in together:
-        counts = whole(one.repeated_numbers), whole(one.left_out)
+        counts = count_cells(one.repeated_numbers, one.left_out)
         rows.append(Row((one.file, one.carrier, whole(one.claims_taken), "yes" if one.corrected else "no", *counts, one.claims_sha256)))
     return Table("Pooled studies", columns, rows)
 
@@ -27,13 +28,6 @@ def pool_lines(together: Sequence[Pooled]) -> List[str]:
 
 def pool_notes(together: Sequence[Pooled]) -> List[str]:
     """What the studies' own pages say as notes, of all of them."""
-    notes = []
     left_out, repeated = sum(one.left_out for one in together), sum(one.repeated_numbers for one in together)
-    if left_out:
-        notes.append(f"{counted(left_out, 'claim is', 'claims are')} refused and left out, as its study lists")
-    if repeated:
-        notes.append(f"{counted(repeated, 'claim number stands', 'claim numbers stand')} more than once in one study, and every record counts")
-    twice = len(together) - len({one.claims_sha256 for one in together})
-    if twice:
-        notes.append(f"{counted(twice, 'study is', 'studies are')} of a claim file that is in the pool already (--again), and its claims count again")
-    return notes
+    again = len(together) - len({one.claims_sha256 for one in together})
+    return together_notes(repeated, left_out, again, "pool")

@@ -2,14 +2,15 @@
 
 import hashlib
 import json
-from typing import Any, Callable, Dict, List, NamedTuple, Optional, Tuple
+from typing import Any, Callable, Dict, List, NamedTuple, Tuple
 
 from .. import dates
+from ..duration_rows import Durations
 from ..study import GROUPS, SUM_NAMES, GroupSums, Study, total
-from .duration_reports import Band, bands, row_dict
+from .duration_reports import Band, all_dict, bands, part_dict
 from .parts import Divided, Part
-from .reports import years_sets
-from .saved_figures import hash_in, must_be_rows, must_follow, part_in, study_in, text_in, whole_in
+from .reports import found_dict, years_sets
+from .saved_figures import hash_in, left_out_in, must_be_rows, must_follow, part_in, repeated_in, study_in, text_in, whole_in
 from .study_json import FORMAT as STUDY_FORMAT
 from .study_json import OLDER_FORMATS, of_dict
 
@@ -37,6 +38,10 @@ class Published(NamedTuple):
     window: Part
     claims: Tuple[str, ...]
     """The fingerprints of all claim files in it: a pool has several."""
+    repeated_numbers: int
+    """How many claim numbers have more than one record that counts."""
+    left_out: int
+    """How many claims are refused and left out."""
     claims_taken: int
     rows: List[Row]
     parts: List[Tuple[Part, List[Row]]]
@@ -75,8 +80,9 @@ def read(name: str, data: bytes) -> Published:
 
 def _study(found: Dict[str, Any]) -> "Figures":
     saved = of_dict(found)
-    study, claims = saved.study, tuple(one.claims_sha256 for one in saved.as_pooled(""))
-    return claims, study.claims_taken, _rows(study.groups, study.weighted), []
+    study, pooled = saved.study, saved.as_pooled("")
+    counts = sum(one.repeated_numbers for one in pooled), sum(one.left_out for one in pooled)
+    return tuple(one.claims_sha256 for one in pooled), *counts, study.claims_taken, _rows(study.groups, study.weighted), []
 
 
 def _years(found: Dict[str, Any]) -> "Figures":
@@ -92,31 +98,39 @@ def _years(found: Dict[str, Any]) -> "Figures":
     _check_parts(divided)
     if found["adds_up"] is not True or not divided.adds_up:
         raise ValueError("its parts do not add up to its window")
-    claims = (hash_in(found["claims_sha256"], "claims_sha256"),)
-    return claims, whole.claims_taken, _rows(whole.groups, whole.weighted), [(part, _rows(study.groups, study.weighted)) for part, study in parts]
+    by_part = [(part, _rows(study.groups, study.weighted)) for part, study in parts]
+    return *_claims(found), whole.claims_taken, _rows(whole.groups, whole.weighted), by_part
 
 
 def _durations(found: Dict[str, Any]) -> "Figures":
     """Rows by duration, and those of the years where they were asked for. They go by count: their weighted sums are zeros, and not shown."""
     whole = _duration_rows(found)
+    must_follow(found["all"], all_dict(Durations(0, [row.count for row in whole])), "all")
     parts = [(part_in(part), _duration_rows(part)) for part in found["parts"]]
     if found["adds_up"] is not True or any([row.band for row in rows] != [row.band for row in whole] for _, rows in parts):
         raise ValueError("its rows do not add up")
     if parts:
         _must_follow_one_another([part for part, _ in parts], part_in(found["window"]))
-    return (hash_in(found["claims_sha256"], "claims_sha256"),), whole_in(found["claims_taken"], "claims_taken"), whole, parts
+    return *_claims(found), whole_in(found["claims_taken"], "claims_taken"), whole, parts
+
+
+def _claims(found: Dict[str, Any]) -> Tuple[Tuple[str, ...], int, int]:
+    """The fingerprint of the claim file, how many of its numbers are repeated, and how many claims left out."""
+    left_out = left_out_in(found)
+    must_follow(found["left_out"], [found_dict(one) for one in left_out], "left_out")
+    return (hash_in(found["claims_sha256"], "claims_sha256"),), len(repeated_in(found)), len(left_out)
 
 
 def _duration_rows(found: Dict[str, Any]) -> List[Row]:
     sums = [GroupSums(*(whole_in(row[name], name) for name in SUM_NAMES)) for row in found["rows"]]
-    rows = [Row(band, row, GroupSums()) for band, row in zip(bands(len(sums)), sums)]
-    must_follow(found["rows"], [row_dict(row.band, row.count) for row in rows], "rows")
-    must_be_rows(whole_in(found["claims_taken"], "claims_taken"), sums)
-    return rows
+    claims_taken = whole_in(found["claims_taken"], "claims_taken")
+    must_follow(found, part_dict(Durations(claims_taken, sums)))
+    must_be_rows(claims_taken, sums)
+    return [Row(band, row, GroupSums()) for band, row in zip(bands(len(sums)), sums)]
 
 
-Figures = Tuple[Tuple[str, ...], int, List[Row], List[Tuple[Part, List[Row]]]]
-"""The claim files' fingerprints, claims taken, the window's rows, and the parts'."""
+Figures = Tuple[Tuple[str, ...], int, int, int, List[Row], List[Tuple[Part, List[Row]]]]
+"""The claim files' fingerprints, numbers repeated, claims left out, claims taken, the window's rows, and the parts'."""
 
 READERS: Dict[str, Callable[[Dict[str, Any]], Figures]] = {STUDY_FORMAT: _study, YEARS_FORMAT: _years, DURATIONS_FORMAT: _durations}
 """A reader for each format."""

@@ -3,10 +3,11 @@
 import json
 import re
 from datetime import date
-from typing import Any, Dict, List, Sequence
+from typing import Any, Dict, List, Sequence, Tuple
 
 from .. import dates
 from ..study import GROUPS, SUM_NAMES, GroupSums, Study, total
+from .checking import Found
 from .parts import Part
 
 _HASH = re.compile(r"[0-9a-f]{64}")
@@ -33,6 +34,16 @@ def hash_in(text: Any, name: str) -> str:
     if not _HASH.fullmatch(text_in(text, name)):
         raise TypeError(f"{name} is no sha256")
     return str(text)
+
+
+def repeated_in(found: Dict[str, Any]) -> Tuple[int, ...]:
+    """The claim numbers of which more than one record counts."""
+    return tuple(whole_in(number, "a repeated number") for number in found["repeated_numbers"])
+
+
+def left_out_in(found: Dict[str, Any]) -> Tuple[Found, ...]:
+    """The claims left out, each with its refusal."""
+    return tuple(Found(*(one[name] for name in Found._fields)) for one in found["left_out"])
 
 
 def part_in(named: Dict[str, Any]) -> Part:

@@ -10,7 +10,7 @@ from ..study import Study, total
 from . import parts as cutting
 from . import provenance
 from .checking import Found
-from .choosing import Chosen, choose
+from .choosing import Chosen, choose, say_left_out
 from .csv_rows import csv_bytes
 from .figures import counted
 from .intervals import POISSON_WORDS
@@ -58,7 +58,7 @@ def study(asked: Namespace) -> int:
     saved = SavedStudy(found, asked.corrected, *about)
     heading = study_heading(asked, saved, "Disability study", sources)._replace(notes=chosen.notes)
     show_study(asked, _with_lines(heading, chosen.lines), saved, left_out_tables(saved), by)
-    _say_left_out(asked, chosen.left_out)
+    say_left_out(asked, chosen.left_out)
     if by is not None and not by.adds_up:
         say(by.words)
         return DATA_REFUSED
@@ -84,12 +84,6 @@ def _with_lines(heading: Heading, more: Sequence[str]) -> Heading:
 def left_out_tables(saved: SavedStudy) -> List[Table]:
     """The claims that are left out, if there are any."""
     return [found_table(LEFT_OUT, saved.left_out)] if saved.left_out else []
-
-
-def _say_left_out(asked: Namespace, left_out: Sequence[Found]) -> None:
-    """CSV has no place for the claims left out: they are told beside it."""
-    for found in left_out if asked.csv else ():
-        say(f"left out: claim number {found.number}, {Refused(found.refused, found.block, found.place)}: {found.why}")
 
 
 def show_study(asked: Namespace, heading: Heading, saved: SavedStudy, listed: Sequence[Table] = (), by: Optional[ByValue] = None) -> None:
@@ -173,7 +167,7 @@ def years(asked: Namespace) -> int:
     refused_in = cutting.refused_in(records, chosen.rates, cut_up)
     verdict = Verdict(divided, _closings(asked, chosen, divided), list(zip(chosen.left_out, refused_in)))
     _show_years(asked, verdict, chosen)
-    _say_left_out(asked, chosen.left_out)
+    say_left_out(asked, chosen.left_out)
     if not verdict.holds:
         say(verdict.words)
     return DONE if verdict.holds else DATA_REFUSED

@@ -6,7 +6,7 @@ from typing import Any, Dict, List, NamedTuple, Tuple
 from ..study import Study, total
 from .checking import Found
 from .reports import found_dict, group_dict, group_figures, sums_dict
-from .saved_figures import hash_in, must_follow, study_in, text_in, whole_in
+from .saved_figures import hash_in, left_out_in, must_follow, repeated_in, study_in, text_in, whole_in
 
 FORMAT = "ltd study 2"
 OLDER_FORMATS = ("ltd study 1",)
@@ -117,13 +117,11 @@ def of_dict(found: Any) -> SavedStudy:
 
 def _saved(found: Dict[str, Any]) -> SavedStudy:
     """As it stands there, by its sums alone."""
-    left_out = [Found(*(one[name] for name in Found._fields)) for one in found["left_out"]]
     pooled = [_pooled(one) for one in found["pooled"]]
     texts = [hash_in(found["rates_sha256"], "rates_sha256"), found["claims_sha256"], text_in(found["carrier"], "carrier")]
     if not pooled or texts[1] != "":
         hash_in(texts[1], "claims_sha256")
-    repeated = tuple(whole_in(number, "a repeated number") for number in found["repeated_numbers"])
-    return SavedStudy(study_in(found), found["corrected"] is True, *texts, repeated, tuple(left_out), tuple(pooled))
+    return SavedStudy(study_in(found), found["corrected"] is True, *texts, repeated_in(found), left_out_in(found), tuple(pooled))
 
 
 def _pooled(one: Dict[str, Any]) -> Pooled:

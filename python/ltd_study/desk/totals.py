@@ -4,6 +4,7 @@ from collections import defaultdict
 from typing import Dict, List, NamedTuple, Optional, Sequence, Tuple
 
 from ..study import GROUPS, GroupSums, total
+from .claim_notes import together_notes
 from .figures import counted
 from .parts import GroupBeside, Part
 from .published import Band, Published, Row
@@ -58,6 +59,14 @@ class Total(NamedTuple):
     def claims_taken(self) -> int:
         """All carriers' claims."""
         return sum(entry.whole.claims_taken for entry in self.entries)
+
+    @property
+    def notes(self) -> List[str]:
+        """What a reader must not miss of the carriers' claims."""
+        whole = [entry.whole for entry in self.entries]
+        claims = [one for file in whole for one in file.claims]
+        repeated, left_out = sum(file.repeated_numbers for file in whole), sum(file.left_out for file in whole)
+        return together_notes(repeated, left_out, len(claims) - len(set(claims)), "total")
 
     @property
     def with_years(self) -> List[Entry]:
@@ -136,6 +145,8 @@ def _no_claims_twice(entries: Sequence[Entry], again: bool) -> None:
 def _entry(study: Optional[Published], years: Optional[Published]) -> Entry:
     if study and years and (study.rows != years.rows or study.claims_taken != years.claims_taken):
         raise ValueError(f"'{study.name}' and '{years.name}' are of the same claims, and their sums of the window differ")
+    if study and years and (study.left_out, study.repeated_numbers) != (years.left_out, years.repeated_numbers):
+        raise ValueError(f"'{study.name}' and '{years.name}' are of the same claims, and their claims left out or numbers repeated differ")
     return Entry(study, years)
 
 
