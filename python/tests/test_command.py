@@ -145,7 +145,7 @@ class Endings(DeskTest):
             self.wait_for_part()
             run.send_signal(signal.SIGHUP)
         self.assertEqual(run.wait(timeout=30), 0)
-        self.assertEqual(self.names(), ["slow.csv", "x.claims"])
+        self.assertEqual(self.names(), ["slow.csv", "x.claims", "x.claims.how.toml"])
 
     def test_an_interrupt_at_the_start(self) -> None:
         package = self.folder / "python" / "ltd_study"

@@ -115,7 +115,7 @@ class Extracts(MapTest):
         regions = (self.folder / "x.claims.Region.csv").read_text().splitlines()
         self.assertEqual(regions, ["Region", "North", "North", "East", "West", "East", "North", "South", "West"])
         beside = ["x.claims", *(f"x.claims.{name}" for name in ("Region.csv", "how.toml", "lines.csv", "map.toml"))]
-        self.assertEqual(self.names(), ["want.claims", *beside])
+        self.assertEqual(self.names(), ["want.claims", "want.claims.how.toml", *beside])
 
     def test_a_first_map_of_each(self) -> None:
         for path in EXTRACTS.glob("*.csv"):
@@ -493,7 +493,7 @@ class SideFiles(MapTest):
             page = Page(text)
             self.assertEqual(page.texts["pre"], self.mapped)
             self.assertIn(f"claims: map: x.claims.map.toml, sha256 {sha256}", page.texts["p"])
-            self.assertIn("claims: packed from in.csv with a map", page.texts["p"])
+            self.assertIn(f"claims: packed from in.csv, sha256 {hashlib.sha256(self.text.encode()).hexdigest()}", page.texts["p"])
             self.assertNotIn("<b>", text)
 
     def test_the_page_has_no_map_of_another_file(self) -> None:
@@ -504,7 +504,7 @@ class SideFiles(MapTest):
         self.packed([Claim(1, "2009-03-13", "2009-06-11")])
         self.assertNotIn("map", Page(self.page()).texts["p"])
         (self.folder / "x.claims.how.toml").write_text("sha256 = [")
-        self.assertEqual(made(str(self.folder / "x.claims"), "0"), ((), ""))
+        self.assertEqual(made(str(self.folder / "x.claims"), "0"), ((), "", ()))
 
     def test_older_side_files_go(self) -> None:
         self.pack(self.text, self.mapped)
@@ -516,7 +516,7 @@ class SideFiles(MapTest):
         self.assertEqual(self.names(), sorted(inputs + beside[1:4]))
         self.file("in.csv", f"{HEADER}\n{GOOD}\n")
         self.ltd("pack", "in.csv", "x.claims", *WINDOW_WORDS)
-        self.assertEqual(self.names(), inputs)
+        self.assertEqual(self.names(), sorted([*inputs, beside[1]]))
 
     def test_nothing_goes_where_the_extract_is_refused(self) -> None:
         self.pack(self.text, self.mapped)

@@ -71,6 +71,7 @@ class Pools(PoolTest):
             self.assertEqual((row["carrier"], row["claims taken"], row["sha256 of the claims"]), (f"Carrier {i}", "30", saved.claims_sha256))
             self.assertEqual(row["numbers repeated"], str(len(saved.repeated_numbers)))
         self.assertEqual(page.texts["h1"], "Disability study, 3 studies pooled")
+        self.assertIn(f"Rate table: sha256 {self.rates.sha256}", page.texts["p"])
         text = self.ltd("pool", "0.json", "1.json").out
         self.assertRegex(text, r"(?m)^1\.json  Carrier 1 +30  no ")
 

@@ -356,6 +356,40 @@ class Withdrawals(Valuation):
             self.ltd("withdraw", "c.json", "back.claims", "r.bin", "--among", "x.claims", status=status)
 
 
+class WithdrawalNotes(DeskTest):
+    """What a withdrawal says of the claims remaining."""
+
+    def setUp(self) -> None:
+        super().setUp()
+        self.example()
+
+    def test_numbers_still_repeated(self) -> None:
+        rows = (PORTFOLIO / "claims.csv").read_text().splitlines()
+        record = next(row for row in rows if row.startswith("1006,"))
+        self.file("back.csv", f"{rows[0]}\n{record}\n")
+        self.file("s.json", self.ltd("study", "claims.claims", "rates.bin", "--json").out)
+        words = ("withdraw", "s.json", "back.csv", "rates.bin")
+        for more, numbers, note in (
+            ((), [1006, 1031], "2 claim numbers stand more than once (1006, 1031)"),
+            (("--among", "claims.claims"), [1031], "1 claim number stands more than once (1031)"),
+        ):
+            self.assertEqual(json.loads(self.ltd(*words, *more, "--json").out)["repeated_numbers"], numbers)
+            ended = self.ltd(*words, *more, "--html", "w.html")
+            for text in (ended.out, ended.err, (self.folder / "w.html").read_text(encoding="utf-8")):
+                self.assertIn(f"{note}, and every record counts", text)
+
+    def test_claims_left_out(self) -> None:
+        self.file("s.json", self.ltd("study", "faulty.claims", "rates.bin", "--accepted", "--json").out)
+        rows = (PORTFOLIO / "faulty.csv").read_text().splitlines()
+        taken = json.loads((self.folder / "s.json").read_text())["left_out"]
+        record = next(row for row in rows[1:] if int(row.split(",")[0]) not in [one["number"] for one in taken])
+        self.file("back.csv", f"{rows[0]}\n{record}\n")
+        ended = self.ltd("withdraw", "s.json", "back.csv", "rates.bin", "--among", "faulty.claims", "--html", "w.html")
+        for text in (ended.out, ended.err, (self.folder / "w.html").read_text(encoding="utf-8")):
+            self.assertIn("6 of 7 claims are refused and left out", text)
+        self.assertIn("Refused and left out", ended.out)
+
+
 class Examples(DeskTest):
     """The examples of the helps, one after the other, on the made-up portfolio."""
 

@@ -92,9 +92,8 @@ def _show(asked: Namespace, chosen: Chosen, found: ByDuration) -> None:
     lines += [f"carrier: {asked.carrier}"] * bool(asked.carrier) + chosen.lines
     for note in chosen.notes:
         say_note(note)
+    heading = Heading(asked.title or "Disability study by duration", lines, *provenance.made(asked, chosen.sources, asked.carrier), chosen.notes)
     if asked.html is not None:
-        made = (provenance.sources_of(asked, chosen.sources), provenance.lines(asked, asked.carrier))
-        heading = Heading(asked.title or "Disability study by duration", lines, *made, chosen.notes)
         write_whole(asked.html, _page(heading, found, chosen.left_out).encode("utf-8", "backslashreplace"))
     if asked.json:
         put_json(_as_dict(asked, chosen, found))

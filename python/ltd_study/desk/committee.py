@@ -65,8 +65,8 @@ def total_of_carriers(asked: Namespace) -> int:
         say_note(note)
     if asked.html is not None:
         sources = [Source("file", file.name, file.sha256) for file in files]
-        rates = f"Rate table: sha256 {files[0].rates_sha256}"
-        heading = Heading(asked.title or "Total of carriers", lines, sources, [rates, *provenance.lines(asked, "")], found.notes)
+        made = [provenance.rates_line(files[0].rates_sha256), *provenance.lines(asked, "")]
+        heading = Heading(asked.title or "Total of carriers", lines, sources, made, found.notes)
         write_whole(asked.html, _page(heading, found, asked.weighted, words, holds).encode("utf-8", "backslashreplace"))
     if asked.json:
         put_json(_as_dict(found, words, holds))

@@ -4,7 +4,7 @@ import io
 import os
 from argparse import Namespace
 from contextlib import contextmanager
-from typing import BinaryIO, Callable, Iterator, Sequence, TextIO
+from typing import BinaryIO, Callable, Iterator, Optional, Sequence, TextIO
 
 from .. import dates
 from ..claim_file import MOST_BLOCKS, MOST_IN_BLOCK, repeated_numbers, write_claims
@@ -16,13 +16,9 @@ from .inputs import say_faults
 from .mapping import Mapping
 from .progress import Progress
 from .repeats import Repeats, note
-from .side_files import Hashed, can_have_side_files, remove_older, write_side_files
+from .side_files import HOW, Hashed, HashedReader, Named, beside, can_have_side_files, remove_older, write_side_files
 from .talk import DATA_REFUSED, DONE, DataRefused, WrongUse, must_be_window, put, put_bytes, read_claims, read_rates, say, say_note
-from .whole_files import note_input, whole_file, write_whole
-
-
-Reader = Callable[[BinaryIO, Callable[[int], None]], Iterator[bytes]]
-"""The records of a stream; the function is told the line now and then."""
+from .whole_files import must_be_writable, note_input, whole_file, write_whole
 
 
 class _Faulty(Exception):
@@ -38,14 +34,12 @@ def pack(asked: Namespace) -> int:
     read = mapping.rows.records if mapping else lambda stream, seen: claims_csv.read_records(stream, faults, seen)
     try:
         with _opened("CSV file", asked.claims) as csv_file, whole_file(asked.out) as out:
-            if mapping:
-                mapping.look_at_outputs()
-            hashed = Hashed(out)
-            count = _pack(csv_file, hashed, asked.window, faults, lambda stream, seen: repeats.through(read(stream, seen)))
-            if mapping:
-                mapping.write_side_files(hashed.sha256)
-        if not mapping:
-            remove_older(asked.out)
+            _look_at_outputs(asked, mapping)
+            source, hashed = HashedReader(csv_file), Hashed(out)
+            count = _pack(csv_file, hashed, asked.window, faults, lambda seen: repeats.through(read(io.BufferedReader(source), seen)))
+            if can_have_side_files(asked.out):
+                made = (mapping.files, mapping.passed_over) if mapping else ({}, [])
+                write_side_files(asked.out, hashed.sha256, *made, Named(asked.claims, source.sha256))
     except _Faulty:
         return _name(faults, asked.claims)
     put(f"{asked.out}: {counted(count, 'claim')} of {first} to {last}\n" + (mapping.words if mapping else ""))
@@ -53,9 +47,18 @@ def pack(asked: Namespace) -> int:
     return DONE
 
 
-def _pack(csv_file: BinaryIO, out: Hashed, window: Sequence[str], faults: Faults, read: Reader) -> int:
+def _look_at_outputs(asked: Namespace, mapping: Optional[Mapping]) -> None:
+    """No side file is a file that is read; but a map may be the one that stands there already."""
+    names = [HOW, *(mapping.names if mapping else ())] if can_have_side_files(asked.out) else []
+    for name in names:
+        if mapping is None or not mapping.stands_already(name):
+            must_be_writable(beside(asked.out, name))
+
+
+def _pack(csv_file: BinaryIO, out: Hashed, window: Sequence[str], faults: Faults, read: Callable[[Callable[[int], None]], Iterator[bytes]]) -> int:
+    """The records that are read, with a function that is told the line, as a claim file; answers how many."""
     with Progress("packing", _size(csv_file)) as progress:
-        records = read(csv_file, lambda line: progress.at(csv_file.tell() if csv_file.seekable() else 0))
+        records = read(lambda line: progress.at(csv_file.tell() if csv_file.seekable() else 0))
         try:
             count = write_claims(out, *window, records)
         except Refused:

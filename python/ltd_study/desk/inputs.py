@@ -10,6 +10,7 @@ from . import claims_csv
 from .csv_rows import Faults
 from .figures import counted
 from .page import Source
+from .side_files import made
 from .talk import DataRefused, read_bytes, say
 
 _BLOCK_0 = b"\0\0"
@@ -35,7 +36,8 @@ def must_be_sound(faults: Faults, name: str, so: str) -> None:
 def read_claim_list(path: str, limit: int, so: str) -> Tuple[List[bytes], Source]:
     """The records of a claim file or of a CSV file, in their order, and the file's fingerprint."""
     data = read_bytes("file of claims", path)
-    source = Source("claims", path, hashlib.sha256(data).hexdigest())
+    sha256 = hashlib.sha256(data).hexdigest()
+    source = Source("claims", path, sha256, *made(path, sha256))
     if data.startswith(_BLOCK_0):
         try:
             return [record.data for record in ClaimFile(data).records()], source

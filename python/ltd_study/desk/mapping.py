@@ -2,16 +2,16 @@
 
 import os
 from argparse import Namespace
-from typing import List
+from typing import Dict, List
 
 from .csv_rows import Faults
 from .extract_map import BadMap, read_map
 from .figures import counted
 from .first_map import Form, first_map
 from .mapped_csv import MappedRows
-from .side_files import HOW, MAP, beside, can_have_side_files, holds, map_files, write_side_files
+from .side_files import HOW, MAP, beside, can_have_side_files, holds, map_files
 from .talk import DONE, DataRefused, WrongUse, put, read_bytes
-from .whole_files import must_be_writable, write_whole
+from .whole_files import write_whole
 
 
 class Mapping:
@@ -27,26 +27,24 @@ class Mapping:
         if not can_have_side_files(asked.out):
             raise WrongUse(f"--map writes files beside OUT, and '{asked.out}' is no file")
 
-    def look_at_outputs(self) -> None:
-        """None of the side files may be a file that is read. The map may be the one that stands there already."""
+    @property
+    def names(self) -> List[str]:
+        """Of the side files."""
         found = self.rows.map
-        for name in [HOW, *map_files(self._data, (), dict.fromkeys(found.keep, ()), found.originals)]:
-            path = beside(self._asked.out, name)
-            if name != MAP or not holds(path, self._data):
-                must_be_writable(path)
+        return list(map_files(self._data, (), dict.fromkeys(found.keep, ()), found.originals))
 
-    def write_side_files(self, sha256: str) -> None:
-        """Writes them for the claim file of a fingerprint."""
-        rows = self.rows
-        files = map_files(self._data, rows.lines, rows.kept, rows.map.originals)
-        write_side_files(self._asked.out, sha256, files, self._notes)
+    def stands_already(self, name: str) -> bool:
+        """Whether a side file is the map itself, as an earlier run left it: that is not written over."""
+        return name == MAP and holds(beside(self._asked.out, name), self._data)
 
     @property
-    def _notes(self) -> List[str]:
-        return [f"packed from {self._asked.claims} with a map", *self._passed_over]
+    def files(self) -> Dict[str, bytes]:
+        """The side files, once the rows are taken."""
+        return map_files(self._data, self.rows.lines, self.rows.kept, self.rows.map.originals)
 
     @property
-    def _passed_over(self) -> List[str]:
+    def passed_over(self) -> List[str]:
+        """Which rows are no claims, in words."""
         found = self.rows.map
         counts = [
             (found.title_lines, counted(found.title_lines, "title line")),
@@ -59,8 +57,8 @@ class Mapping:
     @property
     def words(self) -> str:
         """What the map left out, and what stands beside the claim file."""
-        names = map_files(b"", (), dict.fromkeys(self.rows.kept, ()), self.rows.map.originals)
-        return "".join(f"{line}\n" for line in self._passed_over) + f"beside it: {', '.join(beside(self._asked.out, name) for name in [*names, HOW])}\n"
+        names = ", ".join(beside(self._asked.out, name) for name in [*self.names, HOW])
+        return "".join(f"{line}\n" for line in self.passed_over) + f"beside it: {names}\n"
 
 
 def first(asked: Namespace) -> int:

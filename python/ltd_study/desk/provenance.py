@@ -4,30 +4,50 @@ import hashlib
 import shlex
 from argparse import ArgumentParser, Namespace
 from datetime import date
-from typing import Dict, List, Sequence
+from typing import Dict, List, Sequence, Tuple
 
 from .. import version
 from .page import Source
-from .talk import read_bytes
+from .talk import DataRefused, read_bytes
 
 
 def options(parser: ArgumentParser) -> None:
     """--carrier, and the files that the claim file was made from."""
     parser.add_argument("--carrier", metavar="NAME", default="", help="whose claims they are: stands in the JSON and on the page")
-    says = "files that the claim file was made from (CSV, map): named on the page with their fingerprints"
+    says = "files that the claim file was made from (CSV, map): named on the page with their fingerprints; refused where 'pack' kept others"
     parser.add_argument("--made-from", nargs="+", metavar="FILE", default=[], help=says)
 
 
-def sources_of(asked: Namespace, sources: Sequence[Source]) -> List[Source]:
+def made(asked: Namespace, sources: Sequence[Source], carrier: str) -> Tuple[List[Source], List[str]]:
+    """The files that a page was made from, and by whom, when and how; the latter where a page is asked for."""
+    return _sources(asked, sources), lines(asked, carrier) if asked.html is not None else []
+
+
+def _sources(asked: Namespace, sources: Sequence[Source]) -> List[Source]:
     """The files of a page, with those that the claim file was made from."""
     more = [Source("made from", path, hashlib.sha256(read_bytes("file", path)).hexdigest()) for path in getattr(asked, "made_from", [])]
+    for source in sources:
+        for one in more if source.what == "claims" else ():
+            _must_be_packed_from(source, one)
     return [*sources, *more]
+
+
+def _must_be_packed_from(claims: Source, one: Source) -> None:
+    """A page doesn't name another file than 'pack' kept."""
+    if claims.packed_from and one.sha256 not in [kept.sha256 for kept in claims.packed_from]:
+        kept = "; ".join(map(str, claims.packed_from))
+        raise DataRefused(f"--made-from '{one.name}', sha256 {one.sha256}: '{claims.name}' was packed from another file: {kept}")
 
 
 def lines(asked: Namespace, carrier: str) -> List[str]:
     """Carrier, engine, command and day, for a page's footer."""
     found = [f"Carrier: {carrier}"] if carrier else []
     return [*found, engine_words(), f"Command: {shlex.join(['./ltd', *asked.words])}", f"Made on {date.today()}"]
+
+
+def rates_line(sha256: str) -> str:
+    """The rate table of saved files, which have its fingerprint and no name."""
+    return f"Rate table: sha256 {sha256}"
 
 
 def engine() -> Dict[str, str]:

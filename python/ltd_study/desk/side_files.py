@@ -1,25 +1,64 @@
-"""What 'pack --map' and 'rates pack' leave beside their file: how it was made, for a page to say."""
+"""What 'pack' and 'rates pack' leave beside their file: how it was made, for a page to say."""
 
 import hashlib
+import io
 import json
 import os
+import re
 import tomllib
 from itertools import chain, count, cycle, repeat
 from pathlib import Path
-from typing import BinaryIO, Dict, Iterable, List, Mapping, NamedTuple, Sequence
+from typing import Any, BinaryIO, Dict, Iterable, List, Mapping, NamedTuple, Optional, Sequence
 
 from ..claim_file import MOST_IN_BLOCK
 from .csv_rows import csv_bytes
-from .whole_files import write_whole
+from .whole_files import note_input, write_whole
 
 HOW, MAP, LINES, NUMBERS = "how.toml", "map.toml", "lines.csv", "numbers.csv"
+_NO_TEXT = re.compile("[\ud800-\udfff]")
+
+
+class Named(NamedTuple):
+    """A file's name, as a user gave it, and its fingerprint."""
+
+    name: str
+    sha256: str
+
+    def __str__(self) -> str:
+        return f"{self.name}, sha256 {self.sha256}"
 
 
 class Made(NamedTuple):
-    """How a file was made: what was done to it in words, and the text of its map."""
+    """How a file was made: what was done to it in words, the text of its map, and the files that it was packed from: CSV and map."""
 
     notes: Sequence[str] = ()
     map_text: str = ""
+    packed_from: Sequence[Named] = ()
+    """Nothing where an older 'pack' kept no hash of its CSV."""
+
+
+class HashedReader(io.RawIOBase):
+    """A stream to read, with the fingerprint of what was read."""
+
+    def __init__(self, stream: BinaryIO) -> None:
+        super().__init__()
+        self._stream, self._hash = stream, hashlib.sha256()
+
+    def readable(self) -> bool:
+        """It is."""
+        return True
+
+    def readinto(self, buffer: Any) -> int:
+        """Reads, and adds to the fingerprint."""
+        data = self._stream.read(len(buffer))
+        self._hash.update(data)
+        buffer[: len(data)] = data
+        return len(data)
+
+    @property
+    def sha256(self) -> str:
+        """Of all that was read."""
+        return self._hash.hexdigest()
 
 
 class Hashed:
@@ -66,10 +105,11 @@ def lines_csv(lines: Sequence[int]) -> bytes:
     return b"block,place,line\n" + "".join(map("%d,%d,%d\n".__mod__, zip(blocks, places, lines))).encode()
 
 
-def write_side_files(path: str, sha256: str, files: Mapping[str, bytes], notes: Iterable[str]) -> None:
-    """Writes the side files, and which they are, with the fingerprint of the file they belong to."""
+def write_side_files(path: str, sha256: str, files: Mapping[str, bytes], notes: Iterable[str], csv: Optional[Named] = None) -> None:
+    """Writes the side files, and which they are, with the fingerprints of the file they belong to and of the CSV that it was packed from."""
     how = {
         "sha256": sha256,
+        **({} if csv is None else {"csv": csv.name, "csv_sha256": csv.sha256}),
         "notes": list(notes),
         "files": list(files),
         "map_sha256": hashlib.sha256(files[MAP]).hexdigest() if MAP in files else "",
@@ -78,9 +118,10 @@ def write_side_files(path: str, sha256: str, files: Mapping[str, bytes], notes: 
         if not holds(beside(path, name), data):
             write_whole(beside(path, name), data)
     remove_older(path, files)
-    # JSON's texts and lists of them are TOML's too, but for one sign.
+    # JSON's texts and lists of them are TOML's too, but for one sign. A name's byte that is no UTF-8 stands as its escape.
     text = "".join(f"{key} = {json.dumps(value, ensure_ascii=False)}\n" for key, value in how.items())
-    write_whole(beside(path, HOW), text.replace("\x7f", "\\u007f").encode("utf-8", "backslashreplace"))
+    text = _NO_TEXT.sub(lambda sign: f"\\\\u{ord(sign[0]):04x}", text.replace("\x7f", "\\u007f"))
+    write_whole(beside(path, HOW), text.encode())
 
 
 def holds(path: str, data: bytes) -> bool:
@@ -104,25 +145,51 @@ def belongs(path: str, sha256: str) -> bool:
 
 def made(path: str, sha256: str) -> Made:
     """How the file of a path and fingerprint was made; nothing where it isn't said, or said of another file."""
-    found = _how(path)
-    if not belongs(path, sha256):
+    found = _table(_read(beside(path, HOW)))
+    if found.get("sha256") != sha256:
         return Made()
-    notes, wanted = _texts(found.get("notes")), found.get("map_sha256")
-    if not wanted:
-        return Made(notes)
-    try:
-        data = Path(beside(path, MAP)).read_bytes()
-    except OSError:
-        data = b""
+    csv, notes, wanted = _csv(found), _texts(found.get("notes")), found.get("map_sha256")
+    if csv is not None:
+        notes = [f"packed from {csv}", *notes]
+    if not isinstance(wanted, str) or not wanted:
+        return Made(notes, "", _packed_from(csv))
+    data, kept = _read(beside(path, MAP)), Named(beside(path, MAP), wanted)
     if hashlib.sha256(data).hexdigest() != wanted:
-        return Made([*notes, f"map: sha256 {wanted}; the map beside the file is missing or another one"])
-    return Made([*notes, f"map: {beside(path, MAP)}, sha256 {wanted}"], data.decode("utf-8", "replace"))
+        return Made([*notes, f"map: sha256 {wanted}; the map beside the file is missing or another one"], "", _packed_from(csv, kept))
+    return Made([*notes, f"map: {kept}"], data.decode("utf-8", "replace"), _packed_from(csv, kept))
+
+
+def _packed_from(csv: Optional[Named], *others: Named) -> Sequence[Named]:
+    return () if csv is None else (csv, *others)
+
+
+def _csv(found: Mapping[str, object]) -> Optional[Named]:
+    """The CSV that is kept; an older 'pack' kept none."""
+    name, sha256 = found.get("csv"), found.get("csv_sha256")
+    return Named(name, sha256) if isinstance(name, str) and isinstance(sha256, str) else None
+
+
+def _read(path: str) -> bytes:
+    """A file that a page tells of: nothing is written over it. Nothing where it isn't there."""
+    try:
+        with open(path, "rb") as stream:
+            note_input(stream, path)
+            return stream.read()
+    except OSError:
+        return b""
 
 
 def _how(path: str) -> Dict[str, object]:
     try:
-        return tomllib.loads(Path(beside(path, HOW)).read_text(encoding="utf-8"))
-    except (OSError, ValueError):
+        return _table(Path(beside(path, HOW)).read_bytes())
+    except OSError:
+        return {}
+
+
+def _table(data: bytes) -> Dict[str, object]:
+    try:
+        return tomllib.loads(data.decode("utf-8"))
+    except ValueError:
         return {}
 
 

@@ -18,7 +18,6 @@ from .page import Heading, Judged, Source, study_page, years_page
 from .parts import Closing, Divided, Part
 from .pool_reports import pool_lines, pool_notes, pooled_table
 from .progress import Progress
-from .provenance import sources_of
 from .published import YEARS_FORMAT
 from .reports import (
     CLOSINGS_CSV_HEADER,
@@ -69,12 +68,7 @@ def study_heading(asked: Namespace, saved: SavedStudy, title: str, sources: Sequ
     """Title, window, claims taken and carrier, and for a page where it comes from."""
     found, carrier = saved.study, saved.carrier
     lines = [f"{found.first} to {found.last}: {counted(found.claims_taken, 'claim')} taken"] + [f"carrier: {carrier}"] * bool(carrier)
-    return Heading(asked.title or title, lines, *_made(asked, sources, carrier))
-
-
-def _made(asked: Namespace, sources: Sequence[Source], carrier: str) -> Tuple[Sequence[Source], Sequence[str]]:
-    """A page's files and where it comes from; nothing else shows them."""
-    return (sources_of(asked, sources), provenance.lines(asked, carrier)) if asked.html is not None else ((), ())
+    return Heading(asked.title or title, lines, *provenance.made(asked, sources, carrier))
 
 
 def _with_lines(heading: Heading, more: Sequence[str]) -> Heading:
@@ -126,8 +120,9 @@ def pool(asked: Namespace) -> int:
     assert pooled is not None, "a pool has a first study"
     all_of_them = SavedStudy(pooled, all(one.corrected for one in together), saved[0].rates_sha256, pooled=tuple(together))
     title = f"Disability study, {counted(len(together), 'study', 'studies')} pooled"
-    heading = study_heading(asked, all_of_them, title, sources)._replace(notes=pool_notes(together))
-    show_study(asked, _with_lines(heading, pool_lines(together)), all_of_them, [pooled_table(together)])
+    heading = _with_lines(study_heading(asked, all_of_them, title, sources), pool_lines(together))
+    made = [provenance.rates_line(all_of_them.rates_sha256), *heading.made]
+    show_study(asked, heading._replace(made=made, notes=pool_notes(together)), all_of_them, [pooled_table(together)])
     return DONE
 
 
@@ -158,6 +153,7 @@ def years(asked: Namespace) -> int:
     """A study of each part of the window beside the undivided one; status 1 if they didn't add up."""
     chosen = choose(asked)
     cut_up = _parts(asked, chosen.file)
+    made = provenance.made(asked, chosen.sources, asked.carrier)
     try:
         with Progress("studying the parts", len(cut_up)) as progress:
             divided = cutting.divide(chosen.file, chosen.rates, cut_up, asked.corrected, progress.at)
@@ -166,7 +162,7 @@ def years(asked: Namespace) -> int:
     records = [chosen.whole.record(*found.where).data for found in chosen.left_out]
     refused_in = cutting.refused_in(records, chosen.rates, cut_up)
     verdict = Verdict(divided, _closings(asked, chosen, divided), list(zip(chosen.left_out, refused_in)))
-    _show_years(asked, verdict, chosen)
+    _show_years(asked, verdict, chosen, made)
     say_left_out(asked, chosen.left_out)
     if not verdict.holds:
         say(verdict.words)
@@ -241,11 +237,10 @@ def _left_out_table(verdict: Verdict) -> Table:
     return found_table(LEFT_OUT, [found for found, _ in verdict.left_out], [(Column("refused in parts", left=True), in_parts)])
 
 
-def _show_years(asked: Namespace, verdict: Verdict, chosen: Chosen) -> None:
+def _show_years(asked: Namespace, verdict: Verdict, chosen: Chosen, made: Tuple[List[Source], List[str]]) -> None:
     divided, closed, left_out = verdict
     found = divided.whole
     lines = [f"{found.first} to {found.last} in {counted(len(divided.parts), 'part')}: {counted(found.claims_taken, 'claim')} taken in each study"]
-    made = _made(asked, chosen.sources, asked.carrier)
     heading = Heading(asked.title or "Disability study, part by part", lines + chosen.lines, *made, chosen.notes)
     few = closed is not None and len(closed) <= MOST_CLOSINGS_SHOWN
     listed = [_left_out_table(verdict)] if left_out else []
