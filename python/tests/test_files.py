@@ -7,12 +7,12 @@ import stat
 import subprocess
 import sys
 import threading
-from typing import Tuple
+from typing import Dict, Tuple
 from unittest import mock
 
 from ltd_study.desk.whole_files import whole_file, write_whole
 
-from .support import LTD, PORTFOLIO, DeskTest
+from .support import LTD, PORTFOLIO, DeskTest, commands, with_option
 
 WINDOW_WORDS = ("--window", "2010-03-01", "2014-12-31")
 
@@ -138,6 +138,117 @@ class Inputs(DeskTest):
         self.ltd("unpack", "claims.claims", "--out", "again.csv")
         self.ltd("pack", "again.csv", "claims.claims", *WINDOW_WORDS)
         self.assertEqual((self.folder / "claims.claims").read_bytes(), self.before["claims.claims"])
+
+
+class Outputs(DeskTest):
+    """Two outputs of a command that are one file are refused by name, before anything is written."""
+
+    def setUp(self) -> None:
+        super().setUp()
+        self.example()
+        shutil.copy(PORTFOLIO / "claims.csv", self.folder / "in.csv")
+        self.ltd("map", "in.csv", "--out", "m.toml")
+        self.ltd("rates", "unpack", "rates.bin", "--decimal", "--out", "rates.csv")
+        self.file("s.json", self.ltd("study", "claims.claims", "rates.bin", "--json").out)
+
+    def state(self) -> Dict[str, bytes]:
+        """What every file holds."""
+        return {name: (self.folder / name).read_bytes() for name in self.names() if (self.folder / name).is_file()}
+
+    def refused(self, first: str, second: str, *words: object) -> None:
+        """The command is refused, and every file is as it was."""
+        before = self.state()
+        ended = self.ltd(*words, status=2)
+        self.assertEqual(ended.err, f"ltd: '{first}' and '{second}' are one file: one output would destroy the other, and nothing is written\n")
+        self.assertEqual((ended.out, self.state()), ("", before))
+
+    def test_every_output_is_known(self) -> None:
+        inputs = {"claims", "rates", "map", "by", "made_from", "files", "studies", "study", "open", "among", "t_of", "new_of", "old_of"}
+        no_files = {"title", "carrier", "delimiter", "encoding", "html", "closings", "out"}
+        for name, found in commands().items():
+            texts = {action.dest for action in found._actions if action.nargs != 0 and action.type is None}
+            self.assertLessEqual(texts, inputs | no_files, f"'{name}' has a file that these tests don't know")
+
+    def test_page_and_closings(self) -> None:
+        (self.folder / "sub").mkdir()
+        (self.folder / "link").symlink_to("sub")
+        self.file("there", "old")
+        os.link(self.folder / "there", self.folder / "hard")
+        (self.folder / "soft").symlink_to("there")
+        (self.folder / "dangling").symlink_to("nowhere")
+        for first, second in (
+            ("F", "F"),
+            ("F", "sub/../F"),
+            ("sub/F", "link/F"),
+            ("there", "there"),
+            ("there", "hard"),
+            ("hard", "soft"),
+            ("nowhere", "dangling"),
+            ("F", str(self.folder / "F")),
+        ):
+            self.refused(second, first, "years", "claims.claims", "rates.bin", "--html", first, "--closings", second)
+            self.refused(first, second, "years", "claims.claims", "rates.bin", "--closings", first, "--html", second)
+
+    def test_two_that_differ(self) -> None:
+        self.ltd("years", "claims.claims", "rates.bin", "--html", "a", "--closings", "b")
+        self.assertTrue((self.folder / "a").read_text().startswith("<!DOCTYPE html>"))
+        self.assertTrue((self.folder / "b").read_text().startswith("block,place,"))
+        self.ltd("years", "claims.claims", "rates.bin", "--html", "/dev/null", "--closings", "/dev/null")
+
+    def test_nothing_is_written_where_one_is_refused(self) -> None:
+        before = self.state()
+        for page in ("rates.bin", "."):
+            self.ltd("years", "claims.claims", "rates.bin", "--html", page, "--closings", "c.csv", status=2)
+            self.ltd("years", "claims.claims", "rates.bin", "--closings", page, "--html", "c.html", status=2)
+        self.assertEqual(self.state(), before)
+
+    def test_standard_output(self) -> None:
+        claims = "claims.claims rates.bin"
+        lines = {
+            "study": claims,
+            "years": claims,
+            "durations": claims,
+            "pool": "s.json",
+            "total": "s.json",
+            "withdraw": f"s.json {shlex.quote(str(PORTFOLIO / 'mistaken.csv'))} rates.bin",
+        }
+        self.assertEqual(with_option("--html"), set(lines))
+        words = [f"{command} {files} --html out" for command, files in lines.items()]
+        words += [f"years {claims} --closings out --csv", f"pack in.csv out {' '.join(WINDOW_WORDS)}", "rates pack rates.csv out --decimal"]
+        for line in words:
+            for to in (">", ">>"):
+                self.file("out", "old")
+                self.on_one_file(f"{line} {to} out", "'out'")
+        self.on_one_file(f"study {claims} --html /dev/stdout | cat", "'/dev/stdout'")
+        self.on_one_file(f"pack in.csv /dev/stdout {' '.join(WINDOW_WORDS)} | cat", "'/dev/stdout'")
+        self.assertNotIn("out.how.toml", self.names())
+
+    def on_one_file(self, line: str, name: str) -> None:
+        """What is said; nothing is printed, and no file is another, but for what the shell cut."""
+        before = {**self.state(), "out": b""}
+        run = subprocess.run(["sh", "-c", f"{shlex.quote(sys.executable)} {shlex.quote(str(LTD))} {line}"], cwd=self.folder, capture_output=True, text=True, check=False)
+        self.assertEqual(run.stderr, f"ltd: {name} and standard output are one file: one output would destroy the other, and nothing is written\n", line)
+        self.assertEqual((run.stdout, {**self.state(), "out": b""}), ("", before))
+        if "|" not in line:
+            self.assertEqual((run.returncode, (self.folder / "out").read_text()), (2, "old" if ">>" in line else ""))
+
+    def test_devices(self) -> None:
+        line = f"{shlex.quote(sys.executable)} {shlex.quote(str(LTD))} study claims.claims rates.bin --html /dev/null > /dev/null 2>&1"
+        subprocess.run(["sh", "-c", line], cwd=self.folder, check=True)
+
+    def test_side_files(self) -> None:
+        pack, rates = ("pack", "in.csv", "x", *WINDOW_WORDS), ("rates", "pack", "rates.csv", "x", "--decimal", "--round", "--extend-last")
+        for name, words in (("how.toml", pack), ("map.toml", (*pack, "--map", "m.toml")), ("lines.csv", (*pack, "--map", "m.toml"))):
+            (self.folder / f"x.{name}").symlink_to("x")
+            self.refused(f"x.{name}", "x", *words)
+            (self.folder / f"x.{name}").unlink()
+        (self.folder / "x.lines.csv").symlink_to("x.map.toml")
+        self.refused("x.lines.csv", "x.map.toml", *pack, "--map", "m.toml")
+        (self.folder / "x.lines.csv").unlink()
+        rows = (self.folder / "rates.csv").read_text().splitlines()
+        self.file("rates.csv", "\n".join(row for row in rows if ",480," not in row))
+        (self.folder / "x.how.toml").symlink_to("x")
+        self.refused("x.how.toml", "x", *rates)
 
 
 class WriteErrors(DeskTest):

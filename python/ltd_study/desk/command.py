@@ -13,7 +13,7 @@ from . import by_duration, committee, conversions, inspections, mapping, provena
 from .csv_rows import whole_number
 from .extract_map import DELIMITERS, ENCODINGS
 from .talk import DATA_REFUSED, WRONG_USE, DataRefused, WrongUse, put, say
-from .whole_files import forget_inputs
+from .whole_files import forget_inputs, must_be_different
 
 _CLAIMS_COLUMNS = """\
 Columns, named by the header line, in any order:
@@ -29,6 +29,9 @@ Columns, named by the header line, in any order:
   benefit      monthly benefit in hundreds of dollars, 1 to 200; empty or 0 weighs as 1
 Dates are ISO dates as 2011-02-28. Fields may be quoted as RFC 4180 has it; the file is UTF-8, with
 or without a mark. What a record can't hold is a bad row; what a study refuses, 'ltd check' names."""
+
+_HOW = """\
+OUT.how.toml beside the claim file keeps name and SHA-256 of the CSV, for each page to say."""
 
 _MAP = """\
 The map is TOML; what it doesn't say is refused by line, column and value:
@@ -55,6 +58,8 @@ Each cell has every duration once."""
 
 _HIGHEST_NUMBER = 0xFFFF_FFFF
 _ENDINGS = (signal.SIGINT, signal.SIGTERM, signal.SIGHUP)
+_OUTPUTS = ("html", "closings")
+"""Files that a command writes beside standard output."""
 _STATUS = "Exit status: 0 done; 1 the data is refused; 2 wrong use, a missing file, or an output cut short."
 
 
@@ -131,10 +136,10 @@ def _chosen(parser: argparse.ArgumentParser) -> None:
     _accepted(parser)
 
 
-def _shown(parser: argparse.ArgumentParser) -> None:
+def _shown(parser: argparse.ArgumentParser, csv: str = "sums as the engine has them, z, m and T in millionths") -> None:
     form = parser.add_mutually_exclusive_group()
     form.add_argument("--json", action="store_true", help="print JSON, with both sets of sums")
-    form.add_argument("--csv", action="store_true", help="print CSV: sums as the engine has them, z, m and T in millionths")
+    form.add_argument("--csv", action="store_true", help=f"print CSV: {csv}")
     parser.add_argument("--weighted", action="store_true", help="show the sums weighted by benefit too")
     parser.add_argument("--html", metavar="FILE", help="write a page to hand on: tables and charts in one file")
     parser.add_argument("--title", help="the page's title")
@@ -170,7 +175,7 @@ def _command(commands: "argparse._SubParsersAction", name: str, run: Callable[[a
 
 def _add_conversions(commands: "argparse._SubParsersAction") -> None:
     example = "./ltd pack examples/portfolio/claims.csv portfolio.claims --window 2010-03-01 2014-12-31"
-    pack = _command(commands, "pack", conversions.pack, "write a claim file from CSV", about=_CLAIMS_COLUMNS, example=example)
+    pack = _command(commands, "pack", conversions.pack, "write a claim file from CSV", about=f"{_CLAIMS_COLUMNS}\n{_HOW}", example=example)
     pack.add_argument("claims", metavar="CLAIMS.csv")
     pack.add_argument("out", metavar="OUT", help="the claim file; it is written when it is whole")
     pack.add_argument("--map", metavar="MAP.toml", help="how an extract is read that is in another form; 'ltd map --help' says what it can say")
@@ -262,7 +267,7 @@ def _add_studies(commands: "argparse._SubParsersAction") -> None:
     years = _command(commands, "years", studies.years, "study each year beside the undivided window", about=about, example=example)
     _chosen(years)
     years.add_argument("--cut", nargs="+", type=_day, metavar="DATE", help="the last day of each part but the last (default: each 31 December)")
-    _shown(years)
+    _shown(years, "sums as the engine has them, part by part")
     provenance.options(years)
     years.add_argument("--closings", metavar="FILE", help="write which part counts each closing, as CSV")
 
@@ -296,6 +301,7 @@ def main(arguments: Optional[List[str]] = None) -> int:
     try:
         asked = parser().parse_args(arguments)
         asked.words = sys.argv[1:] if arguments is None else arguments
+        must_be_different(path for path in (getattr(asked, name, None) for name in _OUTPUTS) if path is not None)
         return int(asked.run(asked))
     except DataRefused as refused:
         say(str(refused))

@@ -18,7 +18,7 @@ from .progress import Progress
 from .repeats import Repeats, note
 from .side_files import HOW, Hashed, HashedReader, Named, beside, can_have_side_files, remove_older, write_side_files
 from .talk import DATA_REFUSED, DONE, DataRefused, WrongUse, must_be_window, put, put_bytes, read_claims, read_rates, say, say_note
-from .whole_files import must_be_writable, note_input, whole_file, write_whole
+from .whole_files import must_be_different, must_be_writable, note_input, whole_file, write_whole
 
 
 class _Faulty(Exception):
@@ -48,8 +48,9 @@ def pack(asked: Namespace) -> int:
 
 
 def _look_at_outputs(asked: Namespace, mapping: Optional[Mapping]) -> None:
-    """No side file is a file that is read; but a map may be the one that stands there already."""
+    """No output is another one, and no side file a file that is read; but a map may be the one that stands there already."""
     names = [HOW, *(mapping.names if mapping else ())] if can_have_side_files(asked.out) else []
+    must_be_different([asked.out, *(beside(asked.out, name) for name in names)])
     for name in names:
         if mapping is None or not mapping.stands_already(name):
             must_be_writable(beside(asked.out, name))
@@ -101,6 +102,7 @@ def rates_pack(asked: Namespace) -> int:
         raise DataRefused(f"the engine refuses the table of '{asked.rates}'")
     if notes and not can_have_side_files(asked.out):
         raise WrongUse(f"--round and --extend-last write a file beside OUT, for the page to say so, and '{asked.out}' is no file")
+    must_be_different([asked.out, *[beside(asked.out, HOW)] * bool(notes)])
     if notes:
         write_side_files(asked.out, rates.sha256, {}, notes)
     write_whole(asked.out, rates.to_bytes())

@@ -40,7 +40,7 @@ from .tables import Column, Table, printed
 from .talk import DATA_REFUSED, DONE, DataRefused, WrongUse, put, put_bytes, put_json, read_bytes, say, say_note
 from .value_reports import VALUE_CSV_HEADER, value_dict, value_rows, value_tables
 from .values import ByValue, by_value, read_values
-from .whole_files import write_whole
+from .whole_files import must_be_writable, write_whole
 
 MOST_CLOSINGS_SHOWN = 50
 
@@ -154,6 +154,9 @@ def years(asked: Namespace) -> int:
     chosen = choose(asked)
     cut_up = _parts(asked, chosen.file)
     made = provenance.made(asked, chosen.sources, asked.carrier)
+    for path in (asked.html, asked.closings):
+        if path is not None:
+            must_be_writable(path)
     try:
         with Progress("studying the parts", len(cut_up)) as progress:
             divided = cutting.divide(chosen.file, chosen.rates, cut_up, asked.corrected, progress.at)

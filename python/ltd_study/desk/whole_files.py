@@ -4,9 +4,10 @@ import io
 import os
 import secrets
 import stat
+import sys
 from contextlib import contextmanager, suppress
 from pathlib import Path
-from typing import BinaryIO, Dict, Iterator, Tuple, Union
+from typing import BinaryIO, Dict, Iterable, Iterator, Tuple, Union
 
 _inputs: Dict[Tuple[int, int], str] = {}
 """What the command has read: device and inode of each file, with the name that the user gave it."""
@@ -37,6 +38,36 @@ def must_be_writable(path: Union[str, Path]) -> None:
         raise IsADirectoryError(f"'{path}' is a folder")
     if os.path.exists(path):
         must_be_no_input(os.stat(path), f"'{path}'")
+
+
+def must_be_different(outputs: Iterable[str]) -> None:
+    """Raises FileExistsError where two of a command's outputs, or one and standard output, are one file."""
+    seen: Dict[object, str] = {}
+    for name, found in [("standard output", _stdout()), *((f"'{path}'", _identity(path)) for path in outputs)]:
+        if found in seen:
+            raise FileExistsError(f"{name} and {seen[found]} are one file: one output would destroy the other, and nothing is written")
+        if found is not None:
+            seen[found] = name
+
+
+def _stdout() -> object:
+    try:
+        return _of_stat(os.fstat(sys.stdout.fileno()))
+    except (AttributeError, OSError, ValueError):
+        # There is none, or it is no file of the system.
+        return None
+
+
+def _identity(path: Union[str, Path]) -> object:
+    """Device and inode, or the path in full of what isn't there yet; None of what may be written by two."""
+    try:
+        return _of_stat(os.stat(path))
+    except OSError:
+        return os.path.realpath(path)
+
+
+def _of_stat(found: os.stat_result) -> object:
+    return None if stat.S_ISCHR(found.st_mode) else (found.st_dev, found.st_ino)
 
 
 class _Named(io.FileIO):
