@@ -229,7 +229,7 @@ class Readme(DeskTest):
 
     def test_all_commands(self) -> None:
         words = set(self.run_commands(ROOT / "docs" / "USING.md"))
-        self.assertEqual({command.split()[0] for command in COMMANDS} - {"reserve"}, words - {"--version"})
+        self.assertEqual({command.split()[0] for command in COMMANDS}, words - {"--version"})
         self.assertEqual(self.names(), ["examples", "out"])
 
     def test_the_stored_study(self) -> None:
