@@ -20,6 +20,7 @@ from ltd_study import Claim, ClaimFile, NoDate, Rates, write_claims
 from ltd_study.claim import COLUMNS
 from ltd_study.dates import FIRST, LAST
 from ltd_study.desk.command import main, parser
+from ltd_study.desk.whole_files import forget_inputs
 from ltd_study.rates import DURATIONS
 
 ROOT = Path(__file__).resolve().parents[2]
@@ -59,6 +60,8 @@ class DeskTest(unittest.TestCase):
         folder = tempfile.TemporaryDirectory()
         self.addCleanup(folder.cleanup)
         self.folder = Path(folder.name)
+        # A file of an earlier test may have had the same inode.
+        forget_inputs()
 
     def ltd(self, *words: object, status: int = 0) -> Ended:
         """Runs the command in the test's folder, within this process; its status must be the one given."""
