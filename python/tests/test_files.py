@@ -190,6 +190,8 @@ class Outputs(DeskTest):
             self.refused(first, second, "years", "claims.claims", "rates.bin", "--closings", first, "--html", second)
 
     def test_two_that_differ(self) -> None:
+        for name in ("a", "b"):
+            self.file(name, "the same")
         self.ltd("years", "claims.claims", "rates.bin", "--html", "a", "--closings", "b")
         self.assertTrue((self.folder / "a").read_text().startswith("<!DOCTYPE html>"))
         self.assertTrue((self.folder / "b").read_text().startswith("block,place,"))
