@@ -270,6 +270,22 @@ class SmallCompanies(Valuation):
         found = self.asked("small-company", "x.claims", "--corrected", *self.WORDS)
         self.assertEqual((found["recent"], found["earlier"], found["claims"]), (0, 0, 1))
 
+    def test_numbers_that_stand_more_than_once(self) -> None:
+        claims = [Claim(number, "2005-01-01", "2005-04-01") for number in (1, 7, 3, 7, 1, 7)]
+        self.packed(claims)
+        self.file("x.csv", claims_csv(claims))
+        note = "2 claim numbers stand more than once (1, 7), and every record counts; with --corrected only the last"
+        for name in ("x.claims", "x.csv"):
+            found = self.asked("small-company", name, *self.WORDS)
+            self.assertEqual((found["corrected"], found["repeated_numbers"], found["claims"]), (False, [1, 7], 6))
+            ended = self.ltd("small-company", name, *self.WORDS)
+            self.assertEqual((ended.err, ended.out.count(f"\nnote: {note}\n")), (f"ltd: note: {note}\n", 1))
+            found = self.asked("small-company", name, "--corrected", *self.WORDS)
+            self.assertEqual((found["corrected"], found["repeated_numbers"], found["claims"]), (True, [], 3))
+            ended = self.ltd("small-company", name, "--corrected", *self.WORDS)
+            self.assertEqual((ended.err, "note: " in ended.out), ("", False))
+            self.assertIn("with corrections: of each claim number only the last record counts", ended.out)
+
     def test_what_is_wrong(self) -> None:
         self.packed([Claim(7, "2005-01-01", "2005-04-01"), Claim(8, "2005-01-01", "2005-01-02")])
         ended = self.ltd("small-company", "x.claims", *self.WORDS, status=1)

@@ -2,6 +2,7 @@
 
 import hashlib
 import io
+from collections import Counter
 from typing import Dict, List, Tuple
 
 from ..claim_file import ClaimFile
@@ -52,6 +53,11 @@ def read_claim_list(path: str, limit: int, so: str) -> Tuple[List[bytes], Source
 def number_in(record: bytes) -> int:
     """A record's claim number."""
     return int.from_bytes(record[:4], "little")
+
+
+def repeated_among(records: List[bytes]) -> List[int]:
+    """The claim numbers that stand more than once, in rising order."""
+    return sorted(number for number, times in Counter(map(number_in, records)).items() if times > 1)
 
 
 def last_of_each(records: List[bytes]) -> List[bytes]:

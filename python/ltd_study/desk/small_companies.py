@@ -1,17 +1,18 @@
 """small-company: whether a carrier keeps the table as it is."""
 
 from argparse import Namespace
-from typing import List
+from typing import Any, Dict, List
 
 from ..company_rule import SmallCompany, small_company
 from ..refusals import Refused
 from ..study import GROUPS
+from . import repeats
 from .figures import counted, durations, millionths
 from .given_t import COMPANY_FORMAT, GivenT, given_t
-from .inputs import last_of_each, number_in, read_claim_list
+from .inputs import last_of_each, number_in, read_claim_list, repeated_among
 from .provenance import engine
 from .tables import Column, Row, Table, printed
-from .talk import DONE, DataRefused, WrongUse, put, put_json
+from .talk import DONE, DataRefused, WrongUse, put, put_json, say_note
 
 RECENT_BELOW = 50
 EARLIER_BELOW = 200
@@ -21,8 +22,8 @@ def small_company_rule(asked: Namespace) -> int:
     """The small company rule on a carrier's claims."""
     new, old = given_t(asked, "new"), given_t(asked, "old")
     records, source = read_claim_list(asked.claims, asked.limit, "nothing is counted")
-    if asked.corrected:
-        records = last_of_each(records)
+    records = last_of_each(records) if asked.corrected else records
+    repeated = repeated_among(records)
     try:
         small_company(asked.valuation_date, [], new.t, old.t)
     except Refused as refused:
@@ -32,11 +33,13 @@ def small_company_rule(asked: Namespace) -> int:
     except Refused as refused:
         raise DataRefused(_refused_claim(asked, records, refused)) from None
     if asked.json:
-        what = {"valuation_date": str(asked.valuation_date), "claims": len(records), "claims_sha256": source.sha256}
+        what: Dict[str, Any] = {"valuation_date": str(asked.valuation_date), "claims": len(records), "claims_sha256": source.sha256}
+        what.update(corrected=asked.corrected, repeated_numbers=repeated)
         figures = {**found._asdict(), "t": list(found.t), "new_t": list(new.t), "old_t": list(old.t)}
         put_json({"format": COMPANY_FORMAT, "unit": "millionths", **what, "engine": engine(), **figures})
     else:
-        put(_text(asked, found, len(records), new, old))
+        put(_text(asked, found, len(records), repeats.note(repeated), new, old))
+    say_note(repeats.note(repeated))
     return DONE
 
 
@@ -50,11 +53,13 @@ def _refused_claim(asked: Namespace, records: List[bytes], refused: Refused) -> 
     return f"'{asked.claims}': {refused}"
 
 
-def _text(asked: Namespace, found: SmallCompany, claims: int, new: GivenT, old: GivenT) -> str:
+def _text(asked: Namespace, found: SmallCompany, claims: int, note: str, new: GivenT, old: GivenT) -> str:
     columns = (Column("group", left=True), Column("durations", "months", left=True), Column("T", "in use"), Column("T", "new"), Column("T", "the carrier gets"))
     rows = [Row((str(i), durations(*GROUPS[i - 1]), *map(millionths, three))) for i, three in enumerate(zip(old.t, new.t, found.t), 1)]
     lines = [
         f"Small company rule on {asked.valuation_date}: {counted(claims, 'claim')} of '{asked.claims}'",
+        *[repeats.CORRECTED] * asked.corrected,
+        *[f"note: {note}"] * bool(note),
         "",
         f"{counted(found.recent, 'open claim')} disabled within two years of that day (exempt with fewer than {RECENT_BELOW})",
         f"{counted(found.earlier, 'open claim')} disabled earlier (exempt with fewer than {EARLIER_BELOW})",

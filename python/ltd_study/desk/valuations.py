@@ -169,7 +169,7 @@ def _refused_claim(asked: Namespace, rates: Rates, given: GivenT, claims: Sequen
 
 def _limit_text(asked: Namespace, given: GivenT, count: int, claims: int, found: Any) -> str:
     kept = count >= KEPT_FROM
-    kept_words = f"is kept: its {count:,} recoveries and deaths are {KEPT_FROM:,} or more" if kept else f"too: its {count:,} recoveries and deaths are below {KEPT_FROM:,}"
+    kept_words = f"is kept: its {count:,} recoveries and deaths are {KEPT_FROM:,} or more" if kept else f"is replaced too: its {count:,} recoveries and deaths are below {KEPT_FROM:,}"
     replaced = found.given < found.replaced
     groups = "groups 4 and 5" if kept else "groups 3 to 5"
     if replaced:
