@@ -70,7 +70,7 @@ class Accepted(DeskTest):
 
     def test_csv_lists_them_beside(self) -> None:
         refused, _ = refused_and_taken(self.claims, self.rates)
-        for command in ("study", "years"):
+        for command in ("study", "years", "durations"):
             ended = self.ltd(command, "x.claims", "r.bin", "--accepted", "--csv")
             said = [line for line in ended.err.splitlines() if line.startswith("ltd: left out: claim number ")]
             self.assertEqual(len(said), len(refused))

@@ -283,9 +283,11 @@ class Pages(DeskTest):
     def test_provenance(self) -> None:
         self.file("claims.csv", "x")
         words = ("--carrier", "Mutual <of> Examplia", "--made-from", "claims.csv")
-        for command in ("study", "years"):
-            self.ltd(command, "x.claims", "r.bin", *words, "--html", "page.html")
+        for command in ("study", "years", "durations"):
+            ended = self.ltd(command, "x.claims", "r.bin", *words, "--html", "page.html")
+            self.assertIn("\ncarrier: Mutual <of> Examplia\n", ended.out)
             text = Page((self.folder / "page.html").read_text(encoding="utf-8")).texts["p"]
+            self.assertIn("carrier: Mutual <of> Examplia", text)
             self.assertIn("Carrier: Mutual <of> Examplia", text)
             self.assertIn(f"Command: ./ltd {command} x.claims r.bin --carrier 'Mutual <of> Examplia' --made-from claims.csv --html page.html", text)
             self.assertIn(f"Made on {date.today()}", text)

@@ -32,8 +32,8 @@ def add(commands: "argparse._SubParsersAction", command: Callable[..., argparse.
         "The files are what 'study --json', 'years --json' and 'durations --json' print, of one window and one rate\n"
         "table; durations are added up apart from studies. A study and the years of the same claims count once. Each\n"
         "file is checked: closings not over claims taken, no count below zero, totals, ratios, rates, z, m and T that\n"
-        "follow from the sums, years that total their window. There is no limit of 500,000 claims, and so a total has\n"
-        "no z, m and T."
+        "follow from the sums, years that total their window. How many claims each left out and how many numbers it\n"
+        "repeats is told, and in the JSON. There is no limit of 500,000 claims, and so a total has no z, m and T."
     )
     example = "./ltd total first.json first-years.json second.json --html total.html"
     made = command(commands, "total", total_of_carriers, "add up what carriers publish", about=about, example=example)

@@ -244,6 +244,7 @@ def _show_years(asked: Namespace, verdict: Verdict, chosen: Chosen, made: Tuple[
     divided, closed, left_out = verdict
     found = divided.whole
     lines = [f"{found.first} to {found.last} in {counted(len(divided.parts), 'part')}: {counted(found.claims_taken, 'claim')} taken in each study"]
+    lines += [f"carrier: {asked.carrier}"] * bool(asked.carrier)
     heading = Heading(asked.title or "Disability study, part by part", lines + chosen.lines, *made, chosen.notes)
     few = closed is not None and len(closed) <= MOST_CLOSINGS_SHOWN
     listed = [_left_out_table(verdict)] if left_out else []
