@@ -134,7 +134,8 @@ fn begin(run: LentRun, bytes: &[u8], sums: &mut [i64; 80]) -> LentRun
 
 // The run with the blocks of some bytes taken, a part block at the end with them, up to the first refusal, with a table of either kind. The sums are
 // looked at once for all claims of a block where these can't take one past its bound.
-pub fn feed_lent(
+#[inline(always)]
+fn feed_kind(
     kind: Kind,
     table: &[u32],
     bytes: &[u8],
@@ -174,6 +175,22 @@ pub fn feed_lent(
         at = end;
     }
     run
+}
+
+// The same for callers. Kept: one call for each kind, so that the compiler makes code for each, without the other's tests.
+pub fn feed_lent(
+    kind: Kind,
+    table: &[u32],
+    bytes: &[u8],
+    from: LentRun,
+    sums: &mut [i64; 80],
+) -> LentRun
+    ensures { with_sums result sums.new ≡ fed (with_sums from sums.old) (adding_with kind table.now) bytes.now }
+{
+    match kind {
+        Kind::Plain => feed_kind(Kind::Plain, table, bytes, from, sums),
+        Kind::Prepared => feed_kind(Kind::Prepared, table, bytes, from, sums),
+    }
 }
 
 impl FileRun {

@@ -8,7 +8,7 @@ use Rattle.study.specs.design.LentAdding.{room_for}
 use Rattle.claim_file.specs.Run.{claims_from, fed}
 use Rattle.claim_file.specs.design.PreparedRuns.{adding_with}
 use Rattle.claim_file.specs.design.LentRuns.{with_sums}
-use Rattle.claim_file.proofs.run.feed_lent.Given as goal
+use Rattle.claim_file.proofs.run.feed_kind.Given as goal
 
 abbrev pub invariant-loop-place : goal.invariant-loop-place
 invariant-loop-place l =

@@ -1,4 +1,4 @@
--- `feed_lent` meets its contract. The outer loop's invariant: feeding all bytes to the run handed in is feeding the bytes left to the run so far. The inner
+-- `feed_kind` meets its contract. The outer loop's invariant: feeding all bytes to the run handed in is feeding the bytes left to the run so far. The inner
 -- loop's: adding the block's claims to the study that it began with is adding those left to the study so far, whose sums are lent; and where these had room
 -- for a whole block, they have room for what is left of it.
 -- Assumes nothing.
@@ -33,8 +33,8 @@ use Rattle.claim_file.specs.design.Private.{lent_stops, lent_goes_on}
 use Rattle.claim_file.proofs.Stops.{stop-number, no-stop-number, passed}
 use Rattle.claim_file.proofs.Runs.{Sound, sound, sound-due, part-is, rest-is, fed-refused, fed-none, stops-refused, claims-start, claims-on, claims-off, claims-end}
 use Rattle.claim_file.proofs.LentRuns.{begun-claims-sound, fed-stops, fed-claims, stops-with, goes-on-with}
-use Rattle.claim_file.proofs.run.feed_lent.Goals as goal
-use Rattle.claim_file.proofs.run.feed_lent.Goals.{Else-is_some-2, After-add_to}
+use Rattle.claim_file.proofs.run.feed_kind.Goals as goal
+use Rattle.claim_file.proofs.run.feed_kind.Goals.{Else-is_some-2, After-add_to}
 
 -- a block that was begun and not refused
 module _ (c : Else-is_some-2) where
