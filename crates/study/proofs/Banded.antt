@@ -1,23 +1,16 @@
--- A band of months as the code sums it, read back from 64 bits after each step: 30 times a sum, less what its first and last months lack.
--- One law serves thirtieths, recoveries and deaths.
+-- A band of months as the code has it: what the months up to its end have, less what those before it have. One law serves thirtieths, recoveries and deaths.
 -- Assumes nothing.
 use Prim.Native.Nat.{ℕ, zero, suc, ◌+◌, ◌-◌, ◌*◌, ◌≤◌, ◌<◌}
-use mathlib.Core.Path.{◌≡◌, refl, ap, ap₂, subst, ◌∙◌}
+use mathlib.Core.Path.{◌≡◌, refl, sym, ap, ap₂, ◌∙◌}
 use native.Mathlib.Omega.{arith}
-use native.Mathlib.Nat.{add-zero}
-use lib.IntN.{ℤ, pos, negsuc, nat_abs, neg_ℤ, ◌-ℤ◌, ◌*ℤ◌, +ℤ_idl}
-use mir.Syntax.{w32, w64}
-use mir.Val.{SFits, to_z, of_z}
-use mir.Facts.{to_z-of_z}
+use native.Mathlib.Nat.{add-zero, add-suc}
+use native.Mathlib.Numerals.{add-one}
+use lib.IntN.{ℤ, pos, negsuc, nat_abs, neg_ℤ, ◌+ℤ◌, ◌-ℤ◌, ◌*ℤ◌, +ℤ_idl, +ℤ_idr, +ℤ_assoc, +ℤ_comm, +ℤ_invr, neg_ℤ-+ℤ, zero-*ℤ}
 use Rattle.basics.specs.Series.{sum_to}
-use Rattle.basics.proofs.Integers.{size-sum, size-product}
-use Rattle.basics.proofs.Signed.{small-fits, read_back, result-is}
+use Rattle.basics.proofs.Integers.{times-sum, interchange, size-sum}
 use Rattle.claim_months.specs.Span.{band_sum}
 use Rattle.rates.specs.design.Prepared.{rates_over}
-use Rattle.rates.proofs.Laws.{over-is}
-
-abbrev back : ℤ → ℤ
-back z = to_z w64 (of_z w64 z)
+use Rattle.rates.proofs.Laws.{over-is, over-more}
 
 size-opposite : (x : ℤ) → nat_abs (neg_ℤ x) ≡ nat_abs x
 size-opposite (pos zero) = refl
@@ -27,71 +20,70 @@ size-opposite (negsuc n) = refl
 pub size-difference : (x y : ℤ) → nat_abs (x -ℤ y) ≤ nat_abs x + nat_abs y
 size-difference x y = omega (arith, size-sum x (neg_ℤ y), size-opposite y)
 
--- 30 times a sum over m months, less two numbers, is v
-pub record Less (m : ℕ) (x y z v : ℤ) : Type 0 where
-  pub first_fits : SFits w64 (back (pos 30 *ℤ back x) -ℤ back y)
-  pub both-fits : SFits w64 (back (back (pos 30 *ℤ back x) -ℤ back y) -ℤ back z)
-  pub is : back (back (back (pos 30 *ℤ back x) -ℤ back y) -ℤ back z) ≡ v
-  pub size : nat_abs (back (back (back (pos 30 *ℤ back x) -ℤ back y) -ℤ back z)) ≤ 400000000000 * m
+-- each month counts one
+pub ones : (d n : ℕ) → rates_over (λ d. pos 1) d n ≡ pos n
+unfolding rates_over sum_to
+ones d zero = refl
+ones d (suc n) = ap (λ (z : ℤ). z +ℤ pos 1) (ones d n) ∙ ap pos (add-one n)
 
-module _ (x y z : ℤ) (m : ℕ) (some : 0 < m) (few : m ≤ 1800) (hx : nat_abs x ≤ 4294967295 * m) (hy : nat_abs y ≤ 128849018850)
-    (hz : nat_abs z ≤ 128849018850) where
-  abbrev whole : ℤ
-  whole = pos 30 *ℤ x
-
-  whole-size : nat_abs whole ≤ 128849018850 * m
-  whole-size = omega (arith, size-product (pos 30) x)
-
-  first-size : nat_abs (whole -ℤ y) ≤ 128849018850 * m + 128849018850
-  first-size = omega (arith, whole-size, size-difference whole y)
-
-  both-size : nat_abs (whole -ℤ y -ℤ z) ≤ 400000000000 * m
-  both-size = omega (arith, first-size, size-difference (whole -ℤ y) z)
-
-  whole_is : back (pos 30 *ℤ back x) ≡ whole
-  whole_is = result-is ◌*ℤ◌ (pos 30) x (omega arith) (omega arith) (omega (arith, whole-size))
-
-  first_step : back (pos 30 *ℤ back x) -ℤ back y ≡ whole -ℤ y
-  first_step = ap₂ ◌-ℤ◌ whole_is (read_back y (omega arith))
-
-  both-step : back (back (pos 30 *ℤ back x) -ℤ back y) -ℤ back z ≡ whole -ℤ y -ℤ z
-  both-step = ap₂ ◌-ℤ◌ (ap back first_step ∙ read_back (whole -ℤ y) (omega (arith, first-size))) (read_back z (omega arith))
-
-  both_is : back (back (back (pos 30 *ℤ back x) -ℤ back y) -ℤ back z) ≡ whole -ℤ y -ℤ z
-  both_is = ap back both-step ∙ read_back (whole -ℤ y -ℤ z) (omega (arith, both-size))
-
-  pub less : Less m x y z (pos 30 *ℤ x -ℤ y -ℤ z)
-  less =
-      record {
-        first_fits = rw first_step (small-fits (whole -ℤ y) (omega (arith, first-size)));
-        both-fits = rw both-step (small-fits (whole -ℤ y -ℤ z) (omega (arith, both-size)));
-        is = both_is;
-        size = rw both_is both-size;
-      }
+-- a stretch behind another
+over-apart : (w : ℕ → ℤ) (s n m : ℕ) → 2 ≤ s → rates_over w s (n + m) ≡ rates_over w s n +ℤ rates_over w (s + n) m
+unfolding rates_over sum_to
+over-apart w s n zero h = rw (add-zero n) (sym (+ℤ_idr (rates_over w s n)))
+over-apart w s n (suc m) h =
+    let e : s + (n + m) ≡ s + n + m = omega arith in
+    rw (add-suc n m)
+    (over-more w s (n + m) h ∙ ap₂ (λ (x y : ℤ). x +ℤ y) (over-apart w s n m h) (ap w e) ∙ +ℤ_assoc (rates_over w s n) (rates_over w (s + n) m) (w (s + n + m))
+    ∙ ap (λ (z : ℤ). rates_over w s n +ℤ z) (sym (over-more w (s + n) m (omega arith))))
 
 -- the rates over one duration are its rate
 pub one-rate : (w : ℕ → ℤ) (d : ℕ) → 2 ≤ d → rates_over w d 1 ≡ w d
 unfolding sum_to
 one-rate w d low = over-is w d 1 low ∙ rw (add-zero d) (+ℤ_idl (w d))
 
--- what the first or the last month lacks: thirtieths times the rate of one duration
-module _ (w : ℕ → ℤ) (d t : ℕ) (y : ℤ) (low : 2 ≤ d) (few : t ≤ 30) where
-  counted : to_z w32 t ≡ pos t
-  counted = to_z-of_z {w = w32} (record { sfits = omega arith })
+-- what the months from one duration on and before another have, with what the first of those from that on lacks
+unfoldable pub before_at : (ℕ → ℤ) → ℕ → ℕ → ℕ → ℤ
+before_at w s d b = pos 30 *ℤ rates_over w s (d - s) +ℤ pos b *ℤ rates_over w d 1
 
-  lacked : y ≡ to_z w32 t *ℤ rates_over w d 1 → y ≡ pos t *ℤ w d
-  lacked e = e ∙ ap₂ ◌*ℤ◌ counted (one-rate w d low)
+-- what those up to a duration have, less what the last of them is short of
+unfoldable pub up_to : (ℕ → ℤ) → ℕ → ℕ → ℕ → ℤ
+up_to w s e v = pos 30 *ℤ rates_over w s (e + 1 - s) -ℤ pos v *ℤ rates_over w e 1
 
-  lacked-size : nat_abs y ≤ 4294967295 * nat_abs (to_z w32 t) → nat_abs y ≤ 128849018850
-  lacked-size h = let e = rw counted at h in omega (arith, e)
+pub before-is : (w : ℕ → ℤ) (s d b : ℕ) (x y z : ℤ) → z ≡ x +ℤ y → x ≡ pos 30 *ℤ rates_over w s (d - s) → y ≡ pos b *ℤ rates_over w d 1 → z ≡ before_at w s d b
+unfolding before_at
+before-is w s d b x y z e f g = e ∙ ap₂ ◌+ℤ◌ f g
 
--- where the three are a band's parts, it is the band
-pub banded : (w : ℕ → ℤ) (d m b s : ℕ) (x y z : ℤ) → 2 ≤ d → 0 < m → m ≤ 1800 → b ≤ 30 → s ≤ 30 → x ≡ rates_over w d m → nat_abs x ≤ 4294967295 * m
-    → y ≡ to_z w32 b *ℤ rates_over w d 1 → nat_abs y ≤ 4294967295 * nat_abs (to_z w32 b) → z ≡ to_z w32 s *ℤ rates_over w (d + (m - 1)) 1
-    → nat_abs z ≤ 4294967295 * nat_abs (to_z w32 s) → Less m x y z (band_sum w d m b s)
-unfolding band_sum
-banded w d m b s x y z low some few hb hs ex hx ey hy ez hz =
-    let p = ex ∙ over-is w d m low in
-    let q = lacked w d b y low hb ey in
-    let r = lacked w (d + (m - 1)) s z (omega arith) hs ez in
-    subst (Less m x y z) (λ i. pos 30 *ℤ p i -ℤ q i -ℤ r i) (less x y z m some few hx (lacked-size w d b y low hb hy) (lacked-size w (d + (m - 1)) s z (omega arith) hs hz))
+pub up_to_is : (w : ℕ → ℤ) (s e v : ℕ) (x y z : ℤ) → z ≡ x -ℤ y → x ≡ pos 30 *ℤ rates_over w s (e + 1 - s) → y ≡ pos v *ℤ rates_over w e 1 → z ≡ up_to w s e v
+unfolding up_to
+up_to_is w s e v x y z h f g = h ∙ ap₂ ◌-ℤ◌ f g
+
+less-before : (x y b v : ℤ) → (x +ℤ y -ℤ v) -ℤ (x +ℤ b) ≡ y -ℤ b -ℤ v
+less-before x y b v =
+    ap (λ (z : ℤ). x +ℤ y -ℤ v +ℤ z) (neg_ℤ-+ℤ x b)
+    ∙ ap (λ (z : ℤ). z +ℤ (neg_ℤ x +ℤ neg_ℤ b)) (+ℤ_assoc x y (neg_ℤ v))
+    ∙ interchange x (y +ℤ neg_ℤ v) (neg_ℤ x) (neg_ℤ b)
+    ∙ ap (λ (z : ℤ). z +ℤ (y +ℤ neg_ℤ v +ℤ neg_ℤ b)) (+ℤ_invr x) ∙ +ℤ_idl (y +ℤ neg_ℤ v +ℤ neg_ℤ b)
+    ∙ +ℤ_assoc y (neg_ℤ v) (neg_ℤ b) ∙ ap (λ (z : ℤ). y +ℤ z) (+ℤ_comm (neg_ℤ v) (neg_ℤ b)) ∙ sym (+ℤ_assoc y (neg_ℤ b) (neg_ℤ v))
+
+-- without anything lacking
+pub whole_before : (w : ℕ → ℤ) (s d : ℕ) → pos 30 *ℤ rates_over w s (d - s) ≡ before_at w s d 0
+unfolding before_at
+whole_before w s d = sym (ap (λ (z : ℤ). pos 30 *ℤ rates_over w s (d - s) +ℤ z) (zero-*ℤ (rates_over w d 1)) ∙ +ℤ_idr (pos 30 *ℤ rates_over w s (d - s)))
+
+pub whole-up_to : (w : ℕ → ℤ) (s e : ℕ) → pos 30 *ℤ rates_over w s (e + 1 - s) ≡ up_to w s e 0
+unfolding up_to
+whole-up_to w s e =
+    sym (ap (λ (z : ℤ). pos 30 *ℤ rates_over w s (e + 1 - s) -ℤ z) (zero-*ℤ (rates_over w e 1)) ∙ +ℤ_idr (pos 30 *ℤ rates_over w s (e + 1 - s)))
+
+pub banded : (w : ℕ → ℤ) (s d e b v : ℕ) → 2 ≤ s → s ≤ d → d ≤ e → up_to w s e v -ℤ before_at w s d b ≡ band_sum w d (e - d + 1) b v
+unfolding up_to before_at band_sum
+banded w s d e b v low le some =
+    let n : e + 1 - s ≡ d - s + (e - d + 1) = omega arith in
+    let f : s + (d - s) ≡ d = omega arith in
+    let l : d + (e - d + 1 - 1) ≡ e = omega arith in
+    let x = pos 30 *ℤ rates_over w s (d - s) in
+    let y = pos 30 *ℤ rates_over w d (e - d + 1) in
+    let whole : pos 30 *ℤ rates_over w s (e + 1 - s) ≡ x +ℤ y =
+    rw n (ap (λ (z : ℤ). pos 30 *ℤ z) (rw f at (over-apart w s (d - s) (e - d + 1) low)) ∙ times-sum (pos 30) (rates_over w s (d - s)) (rates_over w d (e - d + 1))) in
+    rw (whole, one-rate w d (omega arith), one-rate w e (omega arith), l)
+    (less-before x y (pos b *ℤ w d) (pos v *ℤ w e) ∙ ap (λ (z : ℤ). pos 30 *ℤ z -ℤ pos b *ℤ w d -ℤ pos v *ℤ w e) (over-is w d (e - d + 1) (omega arith)))

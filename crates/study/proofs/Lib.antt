@@ -15,6 +15,8 @@ pub mod Listed
 pub mod Capacity
 pub mod Banded
 mod Raised
+mod Low
+mod NextBand
 pub mod Built
 mod WithSpan
 mod SpanAdds

@@ -15,7 +15,7 @@ use Rattle.basics.specs.Limits.{most_expected, most_benefit}
 use Rattle.basics.proofs.Tests.{tests, by, pick_is}
 use Rattle.basics.proofs.Tables.{table_at, table-length, table_same, list-table}
 use Rattle.claim_months.specs.declared.Span.{Span}
-use Rattle.claim_months.specs.Span.{span_u, span_b, span_weighted, band_sum, span_band, SpanBounds}
+use Rattle.claim_months.specs.Span.{span_u, span_b, span_weighted, span_closing, band_sum, span_band, SpanBounds}
 use Rattle.claim_months.proofs.SpanIsBand.{band-same, band-none, band-adds}
 use Rattle.rates.specs.Rates.{group_of, group_last}
 use Rattle.rates.proofs.Laws.{group-same, group-next, last-from}
@@ -376,3 +376,14 @@ pub no-months : (recovery death : ℕ → ℤ) (sp : Span) (n : ℕ) → n ≡ 0
 unfolding months_figure
 no-months recovery death sp n e g c =
     rw e (pick_is (is_count c) (λ q. refl) (λ q. weighted-none (group_weight g (column_rate recovery death c)) sp))
+
+-- no closing is none, and without months a span has neither
+pub no-closing : (sp : Span) → sp.category ≡ 0 → (g c : ℕ) → closing_figure sp g c ≡ pos 0
+unfolding closing_figure span_closing
+no-closing sp z g c = pick_is (is_count c) (λ q. rw (eq-eqb sp.category 0 z) refl) (λ q. refl)
+
+pub no-share : (recovery death : ℕ → ℤ) (sp : Span) → SpanBounds sp → sp.months ≡ 0 → (g c : ℕ) → span_figure recovery death sp g c ≡ pos 0
+unfolding span_figure
+no-share recovery death sp bounds e g c =
+    let z : sp.category ≡ 0 = by (ltb 0 sp.category) (λ _. sp.category ≡ 0) (λ t. let some = bounds.closing_months (omega tests) in absurd (omega tests)) (λ t. omega tests) in
+    pick_is (is_count c) (λ q. no-closing sp z g c) (λ q. no-months recovery death sp sp.months e g c)

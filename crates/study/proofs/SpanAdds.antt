@@ -24,8 +24,7 @@ use Rattle.rates.specs.design.Prepared.{table_check_of, recovery_of, death_of, p
 use Rattle.rates.proofs.Parts.{cell_part, cell-within, part-recovery, part-death}
 use Rattle.study.specs.declared.Study.{Study}
 use Rattle.study.specs.design.LentAdding.{guarded_plus, added_to_lent}
-use Rattle.study.specs.design.Private.{months_figure, closing_figure, share_by, span_share, span_number, span_sums}
-use Rattle.study.proofs.Raised.{span-added}
+use Rattle.study.specs.design.Private.{share_by, span_figure, span_share, span_number, span_sums}
 use Rattle.study.proofs.WithSpan.{spanned-number, spanned-sums, refused-number, refused-study}
 
 -- adding a span to the sums of a study that has taken some claims, told whether there is room
@@ -62,19 +61,14 @@ module _ (taken : ℕ) (room : Bool) (s : List ℤ) (kind : Kind) (rates : List 
     pub no_room : room ≡ false → SpanAs refuse_full s
     no_room e = span-full (ap (λ (t : Bool). ltb taken most_claims && t) e ∙ and-false (ltb taken most_claims))
 
-    -- the months are added first, with the rates of the cell's part, then the closing
-    pub span-taken : taken < most_claims → room ≡ true → (part : List ℕ) (a b : List ℤ) → part ≡ cell_part rates cell
-        → a ≡ guarded_plus s (share_by weight (months_figure (part_recovery kind part) (part_death kind part) sp sp.months))
-        → b ≡ guarded_plus a (share_by weight (closing_figure sp)) → SpanAs 0 b
+    -- the share is added with the rates of the cell's part
+    pub span-taken : taken < most_claims → room ≡ true → (part : List ℕ) (b : List ℤ) → part ≡ cell_part rates cell
+        → b ≡ guarded_plus s (share_by weight (span_figure (part_recovery kind part) (part_death kind part) sp)) → SpanAs 0 b
     unfolding span_sums span_share
-    span-taken h e part a b f p q =
+    span-taken h e part b f p =
         let n : number ≡ 0 = last true (rw (lt-ltb taken most_claims h, e)) in
         let all = cell-within kind rates cell passed in
-        let p' = rw (f, part-recovery rates cell all kind, part-death rates cell all kind) at p in (
-          sym n,
-          rw n
-              (q ∙ ap (λ (x : List ℤ). guarded_plus x (share_by weight (closing_figure sp))) p' ∙ span-added (recovery_of kind rates cell) (death_of kind rates cell) s weight sp),
-        )
+        let p' = rw (f, part-recovery rates cell all kind, part-death rates cell all kind) at p in (sym n, rw n p')
 
 -- adding a claim to lent sums: with its span, and without one
 module _ (room : Bool) (kind : Kind) (rates : List ℕ) (c : Claim) (s : Study) where

@@ -37,8 +37,7 @@ fn add_span(
     }
     let from = cell.0 as usize * CELL_NUMBERS;
     let to = from + CELL_NUMBERS;
-    share.add_months(table.kind, &table.numbers[from..to], sums);
-    share.add_closing(sums);
+    share.add(table.kind, &table.numbers[from..to], sums);
     Ok(())
 }
 

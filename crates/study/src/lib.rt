@@ -6,6 +6,7 @@ ghost use Rattle.study.specs.Answers.{by_number};
 ghost use Rattle.study.specs.Study.{fresh, opened};
 
 pub mod adding;
+mod amounts;
 mod bounds;
 pub mod expected;
 mod joining;

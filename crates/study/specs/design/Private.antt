@@ -1,7 +1,9 @@
 -- What the private functions of this layer answer: sums within bounds, and a span's share, band by band.
-use Rattle.std.specs.Prelude.{ℕ, ◌+◌, ◌*◌, Bool, true, ◌&&◌, List, get_or, leb, ltb, eqb, ℤ, pos, ◌*ℤ◌}
+use Rattle.std.specs.Prelude.{ℕ, ◌+◌, ◌-◌, ◌*◌, ◌/◌, ◌≤◌, Bool, true, ◌&&◌, List, get_or, leb, ltb, eqb, ℤ, pos, nat_abs, ◌*ℤ◌}
+use Rattle.std.specs.Int.{w64, cast_unsigned}
+use Rattle.std.specs.Int.Bits.{bit_or}
 use Rattle.basics.specs.Pick.{pick}
-use Rattle.basics.specs.Limits.{most_claims}
+use Rattle.basics.specs.Limits.{most_claims, most_expected, most_benefit}
 use Rattle.basics.specs.Checks.{check, ◌then◌, refuse_full, refuse_withdrawal}
 use Rattle.basics.specs.Tables.{table, every_place, all_within}
 use Rattle.claim_months.specs.declared.Claim.{Claim}
@@ -57,6 +59,33 @@ span_share kind rates cell n sp = share_by n (span_figure (recovery_of kind rate
 -- one figure of one group and column, and no other
 unfoldable pub one_figure : ℕ → ℕ → ℤ → ℕ → ℕ → ℤ
 one_figure g₀ column₀ x g column = pick (eqb g g₀ && eqb column column₀) x (pos 0)
+
+-- amounts added to the three columns of a group that are no counts
+unfoldable pub three_raised : ℕ → ℤ → ℤ → ℤ → ℕ → List ℤ → List ℤ
+three_raised g x y z n s =
+    guarded_plus (guarded_plus (guarded_plus s (share_by n (one_figure g 0 x))) (share_by n (one_figure g 6 y))) (share_by n (one_figure g 7 z))
+
+-- a column's sum is within every bound in both sets
+pub record LowColumn (s : List ℤ) (g column : ℕ) : Type 0 where
+  pub first : nat_abs (get_or s (8 * (g - 1) + column) (pos 0)) ≤ most_expected
+  pub weighted : nat_abs (get_or s (8 * (g - 1) + column + 40) (pos 0)) ≤ most_benefit * most_expected
+
+-- the three columns of a group that are no counts are
+pub record LowGroup (s : List ℤ) (g : ℕ) : Type 0 where
+  pub thirtieths : LowColumn s g 0
+  pub recoveries : LowColumn s g 6
+  pub deaths : LowColumn s g 7
+
+-- the bits of three sums, together
+unfoldable pub three_bits : List ℤ → ℕ → ℕ → ℕ → ℕ
+three_bits s i j k =
+    bit_or (bit_or (cast_unsigned w64 (get_or s i (pos 0))) (cast_unsigned w64 (get_or s j (pos 0)))) (cast_unsigned w64 (get_or s k (pos 0)))
+
+-- whether a group's three sums that are no counts are below 2⁵⁴ and not below 0, and those of the weighted set below 2⁶²
+unfoldable pub six_low : List ℤ → ℕ → Bool
+six_low s g =
+    let at = 8 * (g - 1) in
+    eqb (bit_or (three_bits s at (at + 6) (at + 7) / 18014398509481984) (three_bits s (at + 40) (at + 46) (at + 47) / 4611686018427387904)) 0
 
 -- adding a sound claim's span to sums, told whether they are within their bounds: the number of the first of the checks 6 to 9 that fails, or 0,
 -- and the sums afterwards

@@ -25,8 +25,8 @@ returns-then-taken-ge-MOST_CLAIMS c =
       | then-taken-ge-MOST_CLAIMS-via-else-taken-ge-MOST_CLAIMS+then-not-room w ↦ let rest = no_room _ _ _ _ _ _ _ _ passed w.if-not-room.true in record { value = rest.0; sums_after = rest.1 }
     ]
 
-pub slice_bounds-add_months-end : goal.slice_bounds-add_months-end
-slice_bounds-add_months-end c =
+pub slice_bounds-add-end : goal.slice_bounds-add-end
+slice_bounds-add-end c =
     let passed : let a = c.args in table_check_of a.table.now.kind a.table.now.numbers.now a.cell.0 ≡ 0 = sym c.in_ok-check_of.ensures in
     let whole : let a = c.args in a.cell.0 * 958 + 958 ≤ length a.table.now.numbers.now = let a = c.args in cell-within a.table.now.kind a.table.now.numbers.now a.cell.0 passed in
     omega (arith, whole)
@@ -34,6 +34,6 @@ slice_bounds-add_months-end c =
 pub returns : goal.returns
 returns c =
     let passed : let a = c.args in table_check_of a.table.now.kind a.table.now.numbers.now a.cell.0 ≡ 0 = sym c.in_ok-check_of.ensures in
-    let a = c.args in let rest = span-taken _ _ _ _ _ _ _ _ passed (omega (arith, c.if-taken-ge-MOST_CLAIMS.false)) c.if-not-room.false _ _ _ (lent-part a.table.now.numbers.now a.cell.0)
-    c.add_months.ensures c.add_closing.ensures in
+    let a = c.args in let rest = span-taken _ _ _ _ _ _ _ _ passed (omega (arith, c.if-taken-ge-MOST_CLAIMS.false)) c.if-not-room.false _ _ (lent-part a.table.now.numbers.now a.cell.0)
+    c.add.ensures in
     record { value = rest.0; sums_after = rest.1 }

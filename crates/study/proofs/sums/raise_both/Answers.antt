@@ -97,15 +97,15 @@ module _ (s : List ℤ) (len : Shaped s) (n g column : ℕ) (amount : ℤ) (low 
       ∙ ap (guarded_sum k (at s k)) (sym (share-at n figure k h)))
 
 -- an amount and its weighted one, read back from their bits
-weighted-size : (n : ℕ) (x : ℤ) → n ≤ 200 → nat_abs x ≤ 1000000000000000 → nat_abs (pos n *ℤ x) ≤ 200000000000000000
+weighted-size : (n : ℕ) (x : ℤ) → n ≤ 200 → nat_abs x ≤ 5000000000000000 → nat_abs (pos n *ℤ x) ≤ 1000000000000000000
 weighted-size n x h g =
-    let p : n * nat_abs x ≤ 200 * 1000000000000000 = mul-le-mul h g in
+    let p : n * nat_abs x ≤ 200 * 5000000000000000 = mul-le-mul h g in
     omega (arith, size-product (pos n) x)
 
-weighted-read : (n : ℕ) (x : ℤ) → n ≤ 200 → nat_abs x ≤ 1000000000000000 → to_z w64 (of_z w64 (to_z w64 n *ℤ to_z w64 (of_z w64 x))) ≡ pos n *ℤ x
+weighted-read : (n : ℕ) (x : ℤ) → n ≤ 200 → nat_abs x ≤ 5000000000000000 → to_z w64 (of_z w64 (to_z w64 n *ℤ to_z w64 (of_z w64 x))) ≡ pos n *ℤ x
 weighted-read n x h g = result-is ◌*ℤ◌ (pos n) x (omega arith) (omega arith) (omega (arith, weighted-size n x h g))
 
-weighted-bound : (n : ℕ) (x : ℤ) → n ≤ 200 → nat_abs x ≤ 1000000000000000
+weighted-bound : (n : ℕ) (x : ℤ) → n ≤ 200 → nat_abs x ≤ 5000000000000000
     → nat_abs (to_z w64 (of_z w64 (to_z w64 n *ℤ to_z w64 (of_z w64 x)))) ≤ 1000000000000000000
 weighted-bound n x h g = rw (weighted-read n x h g) (omega (arith, weighted-size n x h g))
 

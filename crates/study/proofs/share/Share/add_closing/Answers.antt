@@ -18,7 +18,7 @@ use Rattle.study.specs.Study.{count_in_group}
 use Rattle.study.specs.design.LentAdding.{guarded_plus}
 use Rattle.study.specs.design.Private.{closing_figure, one_figure}
 use Rattle.study.proofs.Places.{a-count}
-use Rattle.study.proofs.Raised.{none-raised, share-same}
+use Rattle.study.proofs.Raised.{none-raised, share-same, no-closing}
 use Rattle.study.proofs.share.Share.add_closing.Goals as goal
 
 -- one at group g₀ and category y, as the code counts it and as the definition does
@@ -35,10 +35,6 @@ one_placed g₀ y g c low high =
     (sym (pick_is (is_count c) (λ _. rw (ne_eqb y c (λ (e : y ≡ c). omega tests)) (ap pos (mul-zero (pick (eqb g₀ g) 1 0)))) (λ _. refl))))
 
 module _ (sp : Span) where
-  no-closing : sp.category ≡ 0 → (g c : ℕ) → closing_figure sp g c ≡ pos 0
-  unfolding closing_figure span_closing
-  no-closing z g c = pick_is (is_count c) (λ q. rw (eq-eqb sp.category 0 z) refl) (λ q. refl)
-
   one-closing : (d g₀ : ℕ) → 1 ≤ sp.category → sp.category ≤ 5 → g₀ ≡ group_of d → d ≡ sp.first.0 + (sp.months - 1) → (g c : ℕ)
       → one_figure g₀ sp.category (pos 1) g c ≡ closing_figure sp g c
   unfolding one_figure closing_figure span_closing count_in_group
@@ -49,13 +45,9 @@ pub returns-then-category-eq0 : goal.returns-then-category-eq0
 returns-then-category-eq0 c =
     none-raised c.args.self.weight c.args.sums.now (closing_figure c.args.self.span) c.told-sums (no-closing c.args.self.span (omega arith))
 
-pub overflow_sub-span : goal.overflow_sub-span
-overflow_sub-span c = omega (arith, c.args.self.span_bounds.closing_months (omega arith))
-
 pub returns : goal.returns
 returns c =
-    let some = c.args.self.span_bounds.closing_months (omega arith) in
     c.raise_both.ensures
     ∙ ap (guarded_plus c.args.sums.now)
     (share-same c.args.self.weight _ (closing_figure c.args.self.span)
-    (λ g i _ _ _. one-closing c.args.self.span _ _ (omega arith) c.args.self.span_bounds.category_high c.group-group.ensures (omega arith) g i))
+    (λ g i _ _ _. one-closing c.args.self.span _ _ (omega arith) c.args.self.span_bounds.category_high c.requires.group_value refl g i))
