@@ -18,6 +18,7 @@ use claim_months::windows::WindowMonths;
 use rates::Kind;
 
 // Adds the first claims of a block to the n rows.
+#[inline(always)]
 fn add_block(
     kind: Kind,
     table: &[u32],
@@ -41,7 +42,8 @@ fn add_block(
 }
 
 // The run of a file, with the claims taken added to the n rows.
-fn add_file(kind: Kind, table: &[u32], file: &[u8], n: u32, rows: &mut [i64]) -> FileRun
+#[inline(always)]
+fn add_kind(kind: Kind, table: &[u32], file: &[u8], n: u32, rows: &mut [i64]) -> FileRun
     requires le_n { 1 ≤ n }
     requires rows_len { length rows.old ≡ 8 * n }
     requires fit { Fit rows.old }
@@ -60,6 +62,20 @@ fn add_file(kind: Kind, table: &[u32], file: &[u8], n: u32, rows: &mut [i64]) ->
         at = end;
     }
     run.end().with_sums(sums)
+}
+
+// The same for callers: code of its own for each kind, as in `claim_file::run::feed_lent`.
+fn add_file(kind: Kind, table: &[u32], file: &[u8], n: u32, rows: &mut [i64]) -> FileRun
+    requires le_n { 1 ≤ n }
+    requires rows_len { length rows.old ≡ 8 * n }
+    requires fit { Fit rows.old }
+    ensures run { run_by_number result ≡ run_for kind table.now file.now }
+    ensures rows_after { rows.new ≡ raised_by rows.old (checked_sum kind n (run_for kind table.now file.now).study.window table.now (taken_claims file.now (run_for kind table.now file.now))) }
+{
+    match kind {
+        Kind::Plain => add_kind(Kind::Plain, table, file, n, rows),
+        Kind::Prepared => add_kind(Kind::Prepared, table, file, n, rows),
+    }
 }
 
 // How many rows a list of this length has behind the first four numbers.

@@ -1,4 +1,4 @@
--- `run::add_file` meets its contract. Invariant: run, bytes and rows so far come to what the run's start, all bytes and the first rows come to.
+-- `run::add_kind` meets its contract. Invariant: run, bytes and rows so far come to what the run's start, all bytes and the first rows come to.
 -- Assumes nothing.
 use Rattle.std.proofs.Common.{◌≡◌, ◌+◌, ◌-◌, length, sym, ap, ◌∙◌, arith, length-drop}
 use mathlib.Core.Path.{subst⁻¹}
@@ -9,7 +9,7 @@ use Rattle.claim_file.proofs.Runs.{part-is, rest-is}
 use Rattle.by_duration.specs.design.Private.{Fit}
 use Rattle.by_duration.proofs.Raised.{raised-length, raised-fit}
 use Rattle.by_duration.proofs.RowsTaken.{taken-grows, block-records, goes-on, going-first, going-last, run-last}
-use Rattle.by_duration.proofs.run.add_file.Goals as goal
+use Rattle.by_duration.proofs.run.add_kind.Goals as goal
 
 pub loop-at-init : goal.loop-at-init
 unfolding none table

@@ -2,7 +2,7 @@ use Rattle.std.proofs.Common.{◌≡◌, ◌-◌, ◌*◌, ◌≤◌, length, dr
 use Rattle.claim_file.specs.design.LentRuns.{with_sums}
 use Rattle.by_duration.specs.design.Private.{Fit}
 use Rattle.by_duration.proofs.RowsTaken.{Going}
-use Rattle.by_duration.proofs.run.add_file.Given as goal
+use Rattle.by_duration.proofs.run.add_kind.Given as goal
 
 abbrev pub invariant-loop-at : goal.invariant-loop-at
 invariant-loop-at l =
