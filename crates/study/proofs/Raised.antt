@@ -239,11 +239,8 @@ module _ (sp : Span) (bounds : SpanBounds sp) (d e : ℕ) (low : sp.first.0 ≤ 
   from_is : sp.first.0 + from ≡ d
   from_is = omega tests
 
-  pub end_low : d ≤ e
+  end_low : d ≤ e
   end_low = omega (tests, last-from d (omega (tests, bounds.first_high, bounds.months_high)))
-
-  pub end-high : e < sp.first.0 + sp.months
-  end-high = omega tests
 
   length-is : e - d + 1 ≡ group_months sp from
   unfolding group_months
