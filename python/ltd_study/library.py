@@ -2,7 +2,7 @@
 
 The shared object is the one that the environment variable LTD_STUDY_LIBRARY names. Without it, it is the one of the release that this
 module stands in: in ``lib/``, or beside the module's files where it was installed. In a clone it is linked with ``cc`` from the static library
-in ``target/staticlib`` on first use, kept in ``target/desk/``, and linked again once these are newer.
+in ``target/staticlib`` on first use, kept in ``target/desk/``, and linked again once that is newer.
 """
 
 import ctypes
