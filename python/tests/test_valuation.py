@@ -402,7 +402,7 @@ class WithdrawalNotes(DeskTest):
         self.file("back.csv", f"{rows[0]}\n{record}\n")
         ended = self.ltd("withdraw", "s.json", "back.csv", "rates.bin", "--among", "faulty.claims", "--html", "w.html")
         for text in (ended.out, ended.err, (self.folder / "w.html").read_text(encoding="utf-8")):
-            self.assertIn("6 of 7 claims are refused and left out", text)
+            self.assertIn("6 claims are refused and left out, as the study lists", text)
         self.assertIn("Refused and left out", ended.out)
 
 

@@ -8,7 +8,6 @@ from ..rates import Rates
 from ..refusals import Refused
 from ..study import Study
 from . import repeats
-from .claim_notes import left_out_note
 from .figures import counted
 from .inputs import last_of_each, number_in, read_claim_list
 from .page import Source
@@ -64,10 +63,9 @@ def _show(asked: Namespace, remaining: SavedStudy, claims: str, sources: Sequenc
 
 
 def _notes(remaining: SavedStudy) -> List[str]:
-    """What the study's own page says as notes, of the claims remaining."""
-    left_out = len(remaining.left_out)
-    found = left_out_note(left_out, remaining.study.claims_taken + left_out), repeats.note(remaining.repeated_numbers)
-    return [note for note in found if note]
+    """What the study's own page says as notes; of how many claims some were left out is known to the study alone."""
+    left_out = counted(len(remaining.left_out), "claim is", "claims are") + " refused and left out, as the study lists" if remaining.left_out else ""
+    return [note for note in (left_out, repeats.note(remaining.repeated_numbers)) if note]
 
 
 def _still_repeated(saved: SavedStudy, records: List[bytes], taken: List[bytes]) -> Tuple[int, ...]:
