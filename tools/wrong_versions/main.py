@@ -2,6 +2,7 @@
 import argparse
 import collections
 import sys
+import threading
 from concurrent.futures import ThreadPoolExecutor
 from pathlib import Path
 
@@ -48,8 +49,13 @@ def passes(version):
 
 def teller(reasons):
     """Tells of each listed wrong version, and of what else is to be looked at. Whatever is proved and listed as the same has its reason from there."""
+    one_at_a_time = threading.Lock()
 
     def tell(versions):
+        with one_at_a_time:
+            told(versions)
+
+    def told(versions):
         for v in versions:
             if v.text in reasons and v.verdict == "survived":
                 v.note("same", reasons[v.text])

@@ -6,7 +6,7 @@ from pathlib import Path
 from .copies import Copy, placed
 from .names import ROUNDS, respelled
 from .prover import AT_ONCE
-from .version import Change, one_line
+from .version import Change, WrongVersion, one_line
 
 TOGETHER = 16
 ERROR = re.compile(r"^(?:\./)?(?P<file>[^\s:]+):(?P<line>\d+):\d+: error(?:\[[\w-]+\])?: (?P<text>.*)$")
@@ -90,9 +90,19 @@ def verdict_of(errors, unproved=None):
     return ("goal", unproved) if unproved else None
 
 
+def is_proved(said, function):
+    """Whether the prover says of a copy, which has a name of its own, that it is proved."""
+    return re.search(r"^fn \S*::%s: proved" % re.escape(function.name), said, re.M) is not None
+
+
+def parts_of(things):
+    return [things[k:k + TOGETHER] for k in range(0, len(things), TOGETHER)]
+
+
 class Trial:
     def __init__(self, prover, crate):
-        self.prover, self.crate = prover, crate
+        """Beside prover and crate the functions whose copies were looked at, and whether the copy as it is was proved."""
+        self.prover, self.crate, self.has_copy = prover, crate, {}
 
     def alone(self, version):
         """One in a run of its own. Where the proof only misses names, which the prover makes of the code, the names are brought to the code's."""
@@ -169,11 +179,19 @@ class Trial:
         for it in single:
             self.alone(it.version)
 
+    def look_at_copies(self, functions):
+        """A copy that isn't proved as it is would be refused for being a copy, whatever is wrong in it: such a function's versions are tried alone."""
+        copies = [Copy(WrongVersion(self.crate.name, "as it is", f, [], ""), number, self.proofs_of(f)) for number, f in enumerate(functions)]
+        _, said = self.prover.run(placed(copies)[0])
+        for it in copies:
+            self.has_copy[it.version.function] = is_proved(said, it.function)
+            if not self.has_copy[it.version.function]:
+                print("%s: tried alone, as a copy isn't proved as it is" % it.version.place(), flush=True)
+
     def groups_of(self, versions):
         """So many that a run's time is little beside the proofs'."""
-        single = [v for v in versions if v.stands_alone()]
-        others = [v for v in versions if not v.stands_alone()]
-        return [[v] for v in single] + [others[k:k + TOGETHER] for k in range(0, len(others), TOGETHER)]
+        single = [v for v in versions if v.stands_alone() or not self.has_copy[v.function]]
+        return [[v] for v in single] + parts_of([v for v in versions if v not in single])
 
     def tried(self, group, tell):
         if len(group) > 1:
@@ -185,8 +203,11 @@ class Trial:
     def go(self, versions, tell):
         """Tries each that has no verdict yet, and tells of each group's."""
         tell([v for v in versions if v.verdict is not None])
+        left = [v for v in versions if v.verdict is None]
+        new = dict.fromkeys(v.function for v in left if not v.stands_alone() and v.function not in self.has_copy)
         with ThreadPoolExecutor(AT_ONCE) as pool:
-            list(pool.map(lambda group: self.tried(group, tell), self.groups_of([v for v in versions if v.verdict is None])))
+            list(pool.map(self.look_at_copies, parts_of(list(new))))
+            list(pool.map(lambda group: self.tried(group, tell), self.groups_of(left)))
 
     def some(self, versions, others, number, tell):
         """Tries all of the first ones, and of the others as many as the number from the start on, not counting those that the compiler refuses."""
