@@ -1,6 +1,7 @@
 """The CSV that a claim file was packed from: kept with its hash beside the claim file, told by every page, and held against --made-from."""
 
 import hashlib
+import json
 import os
 import random
 import shlex
@@ -8,7 +9,7 @@ import subprocess
 import sys
 import threading
 import tomllib
-from typing import Dict, Tuple
+from typing import Dict, List, Tuple
 
 from ltd_study import Claim
 from ltd_study.claim import COLUMNS
@@ -170,6 +171,163 @@ class HeldAgainst(MadeFrom):
         said = self.refused(("study",), "in.csv", "other.toml")
         kept = f"in.csv, sha256 {sha256(self.text)}; x.claims.map.toml, sha256 {sha256(SAME_COLUMNS)}"
         self.assertEqual(said, f"ltd: --made-from 'other.toml', sha256 {sha256('x')}: 'x.claims' was packed from another file: {kept}")
+
+
+class InJson(MadeFrom):
+    """A JSON keeps the files that its page names, each followed by those that it was made from; pool and total say them file by file."""
+
+    def setUp(self) -> None:
+        super().setUp()
+        self.ltd("pack", "in.csv", "x.claims", "--map", "m.toml", *WINDOW_WORDS)
+        self.claims = [self.kept_of("claims", "x.claims"), self.kept_of("csv", "in.csv"), self.kept_of("map", "x.claims.map.toml")]
+        self.of_study = [*self.claims, self.kept_of("rates", "r.bin")]
+
+    def kept_of(self, what: str, name: str) -> Dict[str, str]:
+        """What is kept of a file."""
+        return {"what": what, "name": name, "sha256": sha256((self.folder / name).read_bytes())}
+
+    def saved(self, name: str, *words: object) -> List[Dict[str, str]]:
+        """What a command prints as JSON is saved; its sources."""
+        self.file(name, self.ltd(*words, "--json").out)
+        return json.loads((self.folder / name).read_text())["sources"]  # type: ignore[no-any-return]
+
+    def foot(self, *words: object) -> str:
+        """What a page says from the day on which it was made."""
+        self.ltd(*words, "--html", "p.html")
+        return Page((self.folder / "p.html").read_text(encoding="utf-8")).texts["p"].split("Made on ")[1][len("2026-01-01") :]
+
+    def said(self, what: str, name: str, kept: List[Dict[str, str]]) -> str:
+        """A saved file and its sources, as a page says them."""
+        lines = [f"{one['what']}: {one['name']}, sha256 {one['sha256']}" for one in [self.kept_of(what, name), *kept]]
+        return f"{what}: ".join([lines[0], *lines[1:]])
+
+    def taken_back(self) -> List[Dict[str, str]]:
+        """Saves w.json, a study of which two claims are taken back; the sources that it has to keep."""
+        self.saved("s.json", "study", "x.claims", "r.bin")
+        self.file("back.csv", "\n".join(self.text.splitlines()[:3]))
+        self.ltd("pack", "back.csv", "back.claims", *WINDOW_WORDS)
+        words = ("withdraw", "s.json", "back.claims", "r.bin", "--among", "x.claims")
+        back = [self.kept_of("claims taken back", "back.claims"), self.kept_of("csv", "back.csv"), self.kept_of("rates", "r.bin")]
+        among = [{**self.claims[0], "what": "among"}, *self.claims[1:]]
+        wanted = [self.kept_of("study", "s.json"), *self.of_study, *back, *among]
+        self.assertEqual(self.saved("w.json", *words), wanted)
+        self.assertTrue(self.foot(*words).startswith(self.said("study", "s.json", self.of_study) + "claims taken back: back.claims, "))
+        return wanted
+
+    def test_each_file_of_the_page(self) -> None:
+        for command, *more in PAGES:
+            words = (command, "x.claims", "r.bin", *more)
+            self.assertEqual(self.saved("a.json", *words), self.of_study)
+            named = (*words, "--made-from", "in.csv", "m.toml")
+            more_files = [self.kept_of("made from", "in.csv"), self.kept_of("made from", "m.toml")]
+            self.assertEqual(self.saved("a.json", *named), [*self.of_study, *more_files])
+            foot = self.foot(*named)
+            for one in [*self.of_study, *more_files]:
+                self.assertIn(f"{one['name']}, sha256 {one['sha256']}", foot)
+
+    def test_without_a_map_and_without_a_csv(self) -> None:
+        self.ltd("pack", "in.csv", "x.claims", *WINDOW_WORDS)
+        self.assertEqual(self.saved("a.json", "study", "x.claims", "r.bin"), [self.of_study[0], self.of_study[1], self.of_study[3]])
+        (self.folder / "x.claims.how.toml").unlink()
+        self.assertEqual(self.saved("a.json", "study", "x.claims", "r.bin"), [self.of_study[0], self.of_study[3]])
+
+    def test_a_map_of_which_an_older_pack_kept_no_csv(self) -> None:
+        claims, mapped = self.claims[0]["sha256"], self.claims[2]["sha256"]
+        self.file("x.claims.how.toml", f'sha256 = "{claims}"\nnotes = []\nfiles = ["map.toml"]\nmap_sha256 = "{mapped}"\n')
+        self.assertEqual(self.saved("a.json", "years", "x.claims", "r.bin"), [self.of_study[0], *self.of_study[2:]])
+
+    def test_a_map_that_is_no_longer_there(self) -> None:
+        for change in (lambda path: path.write_text("x"), lambda path: path.unlink()):
+            change(self.folder / "x.claims.map.toml")
+            self.assertEqual(self.saved("a.json", "study", "x.claims", "r.bin"), self.of_study)
+            self.assertIn(f"claims: map: sha256 {sha256(SAME_COLUMNS)}; the map beside the file is missing", self.footer())
+
+    def test_values_of_a_column(self) -> None:
+        self.file("by.csv", "region\n" + "north\n" * 40)
+        self.assertEqual(self.saved("a.json", "study", "x.claims", "r.bin", "--by", "by.csv"), [*self.of_study, self.kept_of("values", "by.csv")])
+
+    def test_a_pool_says_them_file_by_file_and_hands_them_on(self) -> None:
+        wanted = self.taken_back()
+        self.packed(sound_claims(random.Random(47), 5), name="y.claims")
+        second = self.saved("t.json", "study", "y.claims", "r.bin")
+        self.assertEqual(second, [self.kept_of("claims", "y.claims"), self.kept_of("rates", "r.bin")])
+        self.assertEqual(self.foot("pool", "w.json", "t.json"), self.said("study", "w.json", wanted) + self.said("study", "t.json", second))
+        pooled = [self.kept_of("study", "w.json"), *wanted, self.kept_of("study", "t.json"), *second]
+        self.assertEqual(self.saved("p.json", "pool", "w.json", "t.json"), pooled)
+        self.assertEqual(self.foot("pool", "p.json"), self.said("study", "p.json", pooled))
+        self.assertEqual(self.foot("total", "p.json"), self.said("file", "p.json", pooled))
+
+    def test_a_total_says_them_file_by_file(self) -> None:
+        self.taken_back()
+        self.assertEqual(self.foot("total", "w.json"), self.said("file", "w.json", json.loads((self.folder / "w.json").read_text())["sources"]))
+        for command, *more in PAGES:
+            kept = self.saved("a.json", command, "x.claims", "r.bin", *more)
+            self.assertEqual(self.foot("total", "a.json"), self.said("file", "a.json", kept))
+        self.saved("y.json", "years", "x.claims", "r.bin")
+        two = self.said("file", "s.json", self.of_study) + self.said("file", "y.json", self.of_study)
+        self.assertEqual(self.foot("total", "s.json", "y.json"), two)
+
+    def without(self, name: str, *words: object) -> None:
+        """What an older command saved."""
+        found = json.loads(self.ltd(*words, "--json").out)
+        del found["sources"]
+        self.file(name, json.dumps(found))
+
+    def test_nothing_is_said_of_an_older_json(self) -> None:
+        self.without("s.json", "study", "x.claims", "r.bin")
+        self.assertEqual(self.foot("pool", "s.json"), self.said("study", "s.json", []))
+        self.assertEqual(self.saved("p.json", "pool", "s.json"), [self.kept_of("study", "s.json")])
+        self.ltd("withdraw", "s.json", "x.claims", "r.bin")
+        for command, *more in PAGES:
+            self.without("a.json", command, "x.claims", "r.bin", *more)
+            self.assertEqual(self.foot("total", "a.json"), self.said("file", "a.json", []))
+        self.without("q.json", "pool", "s.json")
+        self.assertEqual(self.foot("total", "q.json"), self.said("file", "q.json", []))
+        self.assertEqual(self.foot("pool", "q.json"), self.said("study", "q.json", []))
+
+    def test_odd_names(self) -> None:
+        for name in (b"<b>&'.claims", b"\xe9.claims", "\u00e9\n.claims".encode()):
+            path = os.path.join(os.fsencode(self.folder), name)
+            with open(path, "wb") as out:
+                out.write((self.folder / "x.claims").read_bytes())
+            kept = self.saved("a.json", "study", os.fsdecode(name), "r.bin")
+            self.assertEqual(kept[0]["name"], os.fsdecode(name))
+            shown = os.fsdecode(name).encode("utf-8", "backslashreplace").decode()
+            for command, what in (("pool", "study"), ("total", "file")):
+                self.assertIn(f"{what}: claims: {shown}, sha256 {kept[0]['sha256']}", self.foot(command, "a.json"))
+
+    EDITS: Tuple[Tuple[object, str], ...] = (
+        (None, "sources are no list"),
+        ("claims", "sources are no list"),
+        ({"what": "claims"}, "sources are no list"),
+        ([5], "a source is no object"),
+        (["claims"], "a source is no object"),
+        ([{"name": "x.claims", "sha256": "0" * 64}], "missing or not as it was saved: 'what'"),
+        ([{"what": "claims", "sha256": "0" * 64}], "missing or not as it was saved: 'name'"),
+        ([{"what": "claims", "name": "x.claims"}], "missing or not as it was saved: 'sha256'"),
+        ([{"what": 1, "name": "x.claims", "sha256": "0" * 64}], "a source's what is no text"),
+        ([{"what": "claims", "name": None, "sha256": "0" * 64}], "a source's name is no text"),
+        ([{"what": "claims", "name": "x.claims", "sha256": 7}], "a source's sha256 is no text"),
+        ([{"what": "claims", "name": "x.claims", "sha256": "0" * 63}], "a source's sha256 is no sha256"),
+        ([{"what": "claims", "name": "x.claims", "sha256": "A" * 64}], "a source's sha256 is no sha256"),
+        ([{"what": "claims", "name": "x.claims", "sha256": "0" * 64 + "\n"}], "a source's sha256 is no sha256"),
+    )
+
+    def test_edits_are_refused(self) -> None:
+        self.saved("s.json", "study", "x.claims", "r.bin")
+        kinds = [*((command, "x.claims", "r.bin", *more) for command, *more in PAGES), ("pool", "s.json")]
+        for words in kinds:
+            self.saved("a.json", *words)
+            found = json.loads((self.folder / "a.json").read_text())
+            for sources, message in self.EDITS:
+                self.file("edited.json", json.dumps({**found, "sources": sources}))
+                readers = [("total", "edited.json")]
+                readers += [("pool", "edited.json"), ("withdraw", "edited.json", "x.claims", "r.bin")] if words[0] == "study" else []
+                for reader in readers:
+                    ended = self.ltd(*reader, status=1)
+                    self.assertTrue(ended.err.startswith("ltd: 'edited.json': "), ended.err)
+                    self.assertIn(message, ended.err)
+                    self.assertEqual((ended.out, len(ended.err.splitlines())), ("", 1))
 
 
 class Older(MadeFrom):

@@ -10,6 +10,7 @@ from typing import Dict, List
 
 from ltd_study import GROUPS, Claim, GroupSums, Rates, RefusedFile, Study, file_study
 from ltd_study.desk import figures
+from ltd_study.desk.side_files import Kept
 from ltd_study.desk.study_json import SavedStudy, of_json
 from ltd_study.study import SUM_NAMES
 
@@ -109,7 +110,9 @@ class Studies(DeskTest):
         kept.add_all([claim for i, claim in enumerate(self.claims) if last[claim.number] == i], self.rates)
         self.assertEqual(file_study(self.folder / "x.claims", self.rates, corrected=True), kept)
         ended = self.ltd("study", "x.claims", "r.bin", "--corrected", "--json")
-        self.assertEqual(of_json(ended.out), SavedStudy(kept, True, self.rates.sha256, sha256((self.folder / "x.claims").read_bytes()).hexdigest()))
+        claims = sha256((self.folder / "x.claims").read_bytes()).hexdigest()
+        sources = Kept("claims", "x.claims", claims), Kept("rates", "r.bin", self.rates.sha256)
+        self.assertEqual(of_json(ended.out), SavedStudy(kept, True, self.rates.sha256, claims, sources=sources))
         self.assertEqual(ended.err, "")
 
     def test_json(self) -> None:

@@ -1,7 +1,7 @@
 """durations: the sums of each month of duration, as text, CSV, JSON and a page."""
 
 from argparse import ArgumentParser, Namespace
-from typing import Any, Callable, Dict, List
+from typing import Any, Callable, Dict, List, Sequence
 
 from ..claim_file import ClaimFile, RefusedFile, file_study
 from ..duration_rows import MOST_ROWS, USUAL_ROWS, RefusedDurations
@@ -16,7 +16,7 @@ from .crude_rates import CRUDE_NOTE, KINDS
 from .csv_rows import csv_bytes
 from .duration_reports import CSV_HEADER, ByDuration, OfPart, all_dict, csv_rows, part_dict, part_tables
 from .figures import counted
-from .page import NOTES, Heading, Judged, Section, page_of
+from .page import NOTES, Heading, Judged, Section, Source, page_of
 from .parts import Part
 from .progress import Progress
 from .published import DURATIONS_FORMAT
@@ -96,7 +96,7 @@ def _show(asked: Namespace, chosen: Chosen, found: ByDuration) -> None:
     if asked.html is not None:
         write_whole(asked.html, _page(heading, found, chosen.left_out).encode("utf-8", "backslashreplace"))
     if asked.json:
-        put_json(_as_dict(asked, chosen, found))
+        put_json(_as_dict(asked, chosen, found, heading.sources))
     elif asked.csv:
         put_bytes(csv_bytes(CSV_HEADER, [row for one in (whole, *found.parts) for row in csv_rows(one)]))
     else:
@@ -119,7 +119,7 @@ def _tables(found: ByDuration) -> List[Table]:
     return part_tables(found.whole) + [table for one in found.parts for table in part_tables(one, f", {one.part.label}")]
 
 
-def _as_dict(asked: Namespace, chosen: Chosen, found: ByDuration) -> Dict[str, Any]:
+def _as_dict(asked: Namespace, chosen: Chosen, found: ByDuration, sources: Sequence[Source]) -> Dict[str, Any]:
     whole = found.whole
     parts = [{"label": one.part.label, "first": str(one.part.first), "last": str(one.part.last), **part_dict(one.found)} for one in found.parts]
     return {
@@ -129,6 +129,7 @@ def _as_dict(asked: Namespace, chosen: Chosen, found: ByDuration) -> Dict[str, A
         "carrier": asked.carrier,
         "claims_sha256": chosen.sources[0].sha256,
         "rates_sha256": chosen.rates.sha256,
+        "sources": [one._asdict() for one in provenance.kept(sources)],
         "engine": provenance.engine(),
         "repeated_numbers": chosen.repeated,
         "left_out": [found_dict(one) for one in chosen.left_out],

@@ -13,7 +13,7 @@ from .csv_rows import csv_bytes
 from .duration_reports import duration_tables
 from .figures import counted, months, whole
 from .intervals import POISSON_WORDS
-from .page import NOTES, Heading, Judged, Section, Source, page_of
+from .page import NOTES, Heading, Judged, Section, page_of
 from .published import Published
 from .ratios import ratios_of
 from .reports import GROUP_COLUMNS, GroupFigures, beside_rows, beside_table, group_rows, set_tables, sums_dict
@@ -64,7 +64,7 @@ def total_of_carriers(asked: Namespace) -> int:
     for note in found.notes:
         say_note(note)
     if asked.html is not None:
-        sources = [Source("file", file.name, file.sha256) for file in files]
+        sources = [provenance.saved_source("file", file.name, file.sha256, file.sources) for file in files]
         made = [provenance.rates_line(files[0].rates_sha256), *provenance.lines(asked, "")]
         heading = Heading(asked.title or "Total of carriers", lines, sources, made, found.notes)
         write_whole(asked.html, _page(heading, found, asked.weighted, words, holds).encode("utf-8", "backslashreplace"))

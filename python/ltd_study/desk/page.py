@@ -9,7 +9,7 @@ from .charts import Chart, closings_chart, exposure_chart, group_bars, part_bars
 from .intervals import POISSON_WORDS
 from .parts import Divided
 from .reports import closings_table, part_totals, shown_years_tables, study_tables
-from .side_files import Named
+from .side_files import Kept
 from .tables import Column, Row, Table, folded
 
 NOTES = (
@@ -54,8 +54,8 @@ class Source(NamedTuple):
     sha256: str
     notes: Sequence[str] = ()
     map_text: str = ""
-    packed_from: Sequence[Named] = ()
-    """Its CSV and map, where 'pack' kept their fingerprints."""
+    kept: Sequence[Kept] = ()
+    """What is known of the files that it was made from itself: its CSV and map, or what a saved JSON keeps."""
 
 
 class Heading(NamedTuple):

@@ -8,6 +8,7 @@ from typing import Dict, List, Sequence, Tuple
 
 from .. import version
 from .page import Source
+from .side_files import CSV_FILE, Kept
 from .talk import DataRefused, read_bytes
 
 
@@ -33,10 +34,21 @@ def _sources(asked: Namespace, sources: Sequence[Source]) -> List[Source]:
 
 
 def _must_be_packed_from(claims: Source, one: Source) -> None:
-    """A page doesn't name another file than 'pack' kept."""
-    if claims.packed_from and one.sha256 not in [kept.sha256 for kept in claims.packed_from]:
-        kept = "; ".join(map(str, claims.packed_from))
-        raise DataRefused(f"--made-from '{one.name}', sha256 {one.sha256}: '{claims.name}' was packed from another file: {kept}")
+    """A page doesn't name another file than 'pack' kept; an older 'pack' kept no CSV, and any file may be named."""
+    packed = any(found.what == CSV_FILE for found in claims.kept)
+    if packed and one.sha256 not in [found.sha256 for found in claims.kept]:
+        others = "; ".join(str(found.named) for found in claims.kept)
+        raise DataRefused(f"--made-from '{one.name}', sha256 {one.sha256}: '{claims.name}' was packed from another file: {others}")
+
+
+def kept(sources: Sequence[Source]) -> Tuple[Kept, ...]:
+    """What a JSON keeps of a page's files: each, and after it those that it was made from itself."""
+    return tuple(one for source in sources for one in (Kept(source.what, source.name, source.sha256), *source.kept))
+
+
+def saved_source(what: str, name: str, sha256: str, sources: Sequence[Kept]) -> Source:
+    """A saved JSON, with what it keeps of its sources for a page to say; an older one keeps none."""
+    return Source(what, name, sha256, list(map(str, sources)), kept=sources)
 
 
 def lines(asked: Namespace, carrier: str) -> List[str]:

@@ -10,7 +10,8 @@ from ..study import GROUPS, SUM_NAMES, GroupSums, Study, total
 from .duration_reports import Band, all_dict, bands, part_dict
 from .parts import Divided, Part
 from .reports import found_dict, years_sets
-from .saved_figures import hash_in, left_out_in, must_be_rows, must_follow, part_in, repeated_in, study_in, text_in, whole_in
+from .saved_figures import hash_in, left_out_in, must_be_rows, must_follow, part_in, repeated_in, sources_in, study_in, text_in, whole_in
+from .side_files import Kept
 from .study_json import FORMAT as STUDY_FORMAT
 from .study_json import OLDER_FORMATS, of_dict
 
@@ -36,6 +37,8 @@ class Published(NamedTuple):
     rates_sha256: str
     corrected: bool
     window: Part
+    sources: Tuple[Kept, ...]
+    """The files that it was made from, as it keeps them; nothing in an older one."""
     claims: Tuple[str, ...]
     """The fingerprints of all claim files in it: a pool has several."""
     repeated_numbers: int
@@ -70,10 +73,10 @@ def read(name: str, data: bytes) -> Published:
         figures = reader(found)
         window, rates = part_in(found["window"]), text_in(found["rates_sha256"], "rates_sha256")
         texts = [text_in(found.get(key) or "", key) for key in ("carrier", "claims_sha256")]
-        corrected = bool(found["corrected"])
+        corrected, sources = bool(found["corrected"]), sources_in(found)
     except (KeyError, TypeError, OverflowError) as error:
         raise ValueError(f"a part of it is missing or not as it was saved: {error}") from None
-    published = Published(name, hashlib.sha256(data).hexdigest(), *texts, rates, corrected, window, *figures)
+    published = Published(name, hashlib.sha256(data).hexdigest(), *texts, rates, corrected, window, sources, *figures)
     _check(published)
     return published
 

@@ -9,6 +9,7 @@ from .. import dates
 from ..study import GROUPS, SUM_NAMES, GroupSums, Study, total
 from .checking import Found
 from .parts import Part
+from .side_files import Kept
 
 _HASH = re.compile(r"[0-9a-f]{64}")
 _CLOSING_NAMES = SUM_NAMES[1:6]
@@ -44,6 +45,20 @@ def repeated_in(found: Dict[str, Any]) -> Tuple[int, ...]:
 def left_out_in(found: Dict[str, Any]) -> Tuple[Found, ...]:
     """The claims left out, each with its refusal."""
     return tuple(Found(*(one[name] for name in Found._fields)) for one in found["left_out"])
+
+
+def sources_in(found: Dict[str, Any]) -> Tuple[Kept, ...]:
+    """The files that it was made from; nothing in an older JSON, which keeps none."""
+    sources = found.get("sources", [])
+    if not isinstance(sources, list):
+        raise TypeError("sources are no list")
+    return tuple(map(_source, sources))
+
+
+def _source(one: Any) -> Kept:
+    if not isinstance(one, dict):
+        raise TypeError("a source is no object")
+    return Kept(text_in(one["what"], "a source's what"), text_in(one["name"], "a source's name"), hash_in(one["sha256"], "a source's sha256"))
 
 
 def part_in(named: Dict[str, Any]) -> Part:

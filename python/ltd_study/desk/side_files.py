@@ -15,6 +15,8 @@ from .csv_rows import csv_bytes
 from .whole_files import note_input, write_whole
 
 HOW, MAP, LINES, NUMBERS = "how.toml", "map.toml", "lines.csv", "numbers.csv"
+CSV_FILE, MAP_FILE = "csv", "map"
+"""What a JSON calls the files that a claim file was packed from."""
 _NO_TEXT = re.compile("[\ud800-\udfff]")
 
 
@@ -28,13 +30,29 @@ class Named(NamedTuple):
         return f"{self.name}, sha256 {self.sha256}"
 
 
+class Kept(NamedTuple):
+    """A file that another was made from, as a JSON keeps it and a page says it: what it is, its name and its fingerprint."""
+
+    what: str
+    name: str
+    sha256: str
+
+    @property
+    def named(self) -> Named:
+        """The file without what it is."""
+        return Named(self.name, self.sha256)
+
+    def __str__(self) -> str:
+        return f"{self.what}: {self.named}"
+
+
 class Made(NamedTuple):
     """How a file was made: what was done to it in words, the text of its map, and the files that it was packed from: CSV and map."""
 
     notes: Sequence[str] = ()
     map_text: str = ""
-    packed_from: Sequence[Named] = ()
-    """Nothing where an older 'pack' kept no hash of its CSV."""
+    kept: Sequence[Kept] = ()
+    """No CSV where an older 'pack' kept no hash of it."""
 
 
 class HashedReader(io.RawIOBase):
@@ -149,18 +167,15 @@ def made(path: str, sha256: str) -> Made:
     if found.get("sha256") != sha256:
         return Made()
     csv, notes, wanted = _csv(found), _texts(found.get("notes")), found.get("map_sha256")
+    kept = () if csv is None else (Kept(CSV_FILE, *csv),)
     if csv is not None:
         notes = [f"packed from {csv}", *notes]
     if not isinstance(wanted, str) or not wanted:
-        return Made(notes, "", _packed_from(csv))
-    data, kept = _read(beside(path, MAP)), Named(beside(path, MAP), wanted)
+        return Made(notes, "", kept)
+    data, mapped = _read(beside(path, MAP)), Kept(MAP_FILE, beside(path, MAP), wanted)
     if hashlib.sha256(data).hexdigest() != wanted:
-        return Made([*notes, f"map: sha256 {wanted}; the map beside the file is missing or another one"], "", _packed_from(csv, kept))
-    return Made([*notes, f"map: {kept}"], data.decode("utf-8", "replace"), _packed_from(csv, kept))
-
-
-def _packed_from(csv: Optional[Named], *others: Named) -> Sequence[Named]:
-    return () if csv is None else (csv, *others)
+        return Made([*notes, f"map: sha256 {wanted}; the map beside the file is missing or another one"], "", (*kept, mapped))
+    return Made([*notes, str(mapped)], data.decode("utf-8", "replace"), (*kept, mapped))
 
 
 def _csv(found: Mapping[str, object]) -> Optional[Named]:

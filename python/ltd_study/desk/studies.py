@@ -90,7 +90,7 @@ def show_study(asked: Namespace, heading: Heading, saved: SavedStudy, listed: Se
         judged = None if by is None else Judged(by.words, by.adds_up)
         write_whole(asked.html, study_page(heading, found, asked.weighted, more, judged).encode("utf-8", "backslashreplace"))
     if asked.json:
-        put(to_json(saved, engine=provenance.engine(), **({} if by is None else {"by": value_dict(by)})))
+        put(to_json(saved._replace(sources=provenance.kept(heading.sources)), engine=provenance.engine(), **({} if by is None else {"by": value_dict(by)})))
     elif asked.csv and by is not None:
         put_bytes(csv_bytes(VALUE_CSV_HEADER, value_rows(by, asked.weighted)))
     elif asked.csv:
@@ -144,9 +144,10 @@ def read_saved(path: str) -> Tuple[SavedStudy, Source]:
     """A saved study, every figure of it checked, and the file's fingerprint."""
     data = read_bytes("saved study", path)
     try:
-        return of_json(data.decode("utf-8-sig")), Source("study", path, hashlib.sha256(data).hexdigest())
+        saved = of_json(data.decode("utf-8-sig"))
     except ValueError as error:
         raise DataRefused(f"'{path}': {error}") from None
+    return saved, provenance.saved_source("study", path, hashlib.sha256(data).hexdigest(), saved.sources)
 
 
 def years(asked: Namespace) -> int:
@@ -255,7 +256,7 @@ def _show_years(asked: Namespace, verdict: Verdict, chosen: Chosen, made: Tuple[
         page = years_page(heading, divided, asked.weighted, Judged(verdict.words, verdict.holds), listed)
         write_whole(asked.html, page.encode("utf-8", "backslashreplace"))
     if asked.json:
-        put_json(_years_dict(asked, verdict, chosen))
+        put_json(_years_dict(asked, verdict, chosen, heading.sources))
     elif asked.csv:
         put_bytes(csv_bytes(YEARS_CSV_HEADER, years_rows(divided, asked.weighted)))
     else:
@@ -264,7 +265,7 @@ def _show_years(asked: Namespace, verdict: Verdict, chosen: Chosen, made: Tuple[
         put("\n".join([_top("Studies of", heading), *map(printed, tables), *more, verdict.words + "\n"]))
 
 
-def _years_dict(asked: Namespace, verdict: Verdict, chosen: Chosen) -> Dict[str, Any]:
+def _years_dict(asked: Namespace, verdict: Verdict, chosen: Chosen, sources: Sequence[Source]) -> Dict[str, Any]:
     """Years for JSON: each set, group by group, with the parts' sums in their order."""
     divided, closed, left_out = verdict
     return {
@@ -276,6 +277,7 @@ def _years_dict(asked: Namespace, verdict: Verdict, chosen: Chosen) -> Dict[str,
         "carrier": asked.carrier,
         "claims_sha256": chosen.sources[0].sha256,
         "rates_sha256": chosen.rates.sha256,
+        "sources": [one._asdict() for one in provenance.kept(sources)],
         "engine": provenance.engine(),
         "repeated_numbers": chosen.repeated,
         "left_out": [{**found_dict(found), "refused_in_parts": sorted(numbers)} for found, numbers in left_out],

@@ -6,7 +6,8 @@ from typing import Any, Dict, List, NamedTuple, Tuple
 from ..study import Study, total
 from .checking import Found
 from .reports import found_dict, group_dict, group_figures, sums_dict
-from .saved_figures import hash_in, left_out_in, must_follow, repeated_in, study_in, text_in, whole_in
+from .saved_figures import hash_in, left_out_in, must_follow, repeated_in, sources_in, study_in, text_in, whole_in
+from .side_files import Kept
 
 FORMAT = "ltd study 2"
 OLDER_FORMATS = ("ltd study 1",)
@@ -47,6 +48,8 @@ class SavedStudy(NamedTuple):
     """The claim numbers of which more than one record counts."""
     left_out: Tuple[Found, ...] = ()
     pooled: Tuple[Pooled, ...] = ()
+    sources: Tuple[Kept, ...] = ()
+    """The files that it was made from, as its page names them; nothing where an older ./ltd saved it."""
 
     def as_pooled(self, file: str) -> List[Pooled]:
         """The studies that this one is in a pool: itself, or those that were pooled before."""
@@ -66,6 +69,7 @@ def as_dict(saved: SavedStudy) -> Dict[str, Any]:
         "corrected": saved.corrected,
         "claims_sha256": saved.claims_sha256,
         "rates_sha256": saved.rates_sha256,
+        **({"sources": [one._asdict() for one in saved.sources]} if saved.sources else {}),
         "repeated_numbers": list(saved.repeated_numbers),
         "left_out": [found_dict(found) for found in saved.left_out],
         "pooled": [one._asdict() for one in saved.pooled],
@@ -121,7 +125,7 @@ def _saved(found: Dict[str, Any]) -> SavedStudy:
     texts = [hash_in(found["rates_sha256"], "rates_sha256"), found["claims_sha256"], text_in(found["carrier"], "carrier")]
     if not pooled or texts[1] != "":
         hash_in(texts[1], "claims_sha256")
-    return SavedStudy(study_in(found), found["corrected"] is True, *texts, repeated_in(found), left_out_in(found), tuple(pooled))
+    return SavedStudy(study_in(found), found["corrected"] is True, *texts, repeated_in(found), left_out_in(found), tuple(pooled), sources_in(found))
 
 
 def _pooled(one: Dict[str, Any]) -> Pooled:
