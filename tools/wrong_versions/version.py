@@ -18,7 +18,7 @@ class WrongVersion:
         self.verdict, self.why, self.text = None, "", None
 
     def place(self):
-        where = self.changes[0].file if self.changes else "?"
+        where = self.changes[0].file if self.changes else self.function.file if self.function else "?"
         return "%s/%s%s" % (self.crate, where, " " + self.function.label if self.function else "")
 
     def note(self, verdict, why):
