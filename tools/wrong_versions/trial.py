@@ -42,10 +42,10 @@ def errors_of(said):
     return found
 
 
-def is_proof_of(file, function):
-    """Whether a file is in the folder of a function's proof."""
+def is_proof_of(file, function, sign=""):
+    """Whether a file is in the folder of a function's proof. Of a function that calls itself the folder's name begins with the sign +, and of its copy not."""
     parts = Path(file).parts
-    if len(parts) < 3 or parts[0] != "proofs" or parts[-2] != function.name:
+    if len(parts) < 3 or parts[0] != "proofs" or parts[-2] != sign + function.name:
         return False
     if function.owner:
         return function.owner in parts[1:-2]
@@ -106,7 +106,7 @@ class Trial:
 
     def alone(self, version):
         """One in a run of its own. Where the proof only misses names, which the prover makes of the code, the names are brought to the code's."""
-        proofs = self.proofs_of(version.function) if version.function else {}
+        proofs = {**self.proofs_of(version.function), **self.proofs_of(version.function, "+")} if version.function else {}
         texts = dict(proofs)
         for _ in range(ROUNDS):
             said = self.judge(version, version.changes + [Change(file, 0, len(proofs[file]), text) for file, text in texts.items() if text != proofs[file]])
@@ -115,10 +115,10 @@ class Trial:
                 break
             texts = new
 
-    def proofs_of(self, function):
+    def proofs_of(self, function, sign=""):
         """The texts of a function's own proof files."""
         files = [path.relative_to(self.crate.folder) for path in sorted((self.crate.folder / "proofs").rglob("*.antt"))]
-        return {str(file): (self.crate.folder / file).read_text() for file in files if is_proof_of(file, function)}
+        return {str(file): (self.crate.folder / file).read_text() for file in files if is_proof_of(file, function, sign)}
 
     def judge(self, version, changes):
         """Notes the verdict of a version by itself, and gives what the prover says."""
