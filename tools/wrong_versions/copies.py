@@ -7,6 +7,9 @@ import re
 from .names import ROUNDS, respelled
 from .version import Change
 
+# Nothing calls a copy, so it is in no cycle of calls, and the compiler refuses it where it says so.
+CYCLE = re.compile(r"#\[cycle\(\w+\)\]\s*")
+
 
 def item_start(f):
     """Where a function's lines begin, those of its attributes among them."""
@@ -31,7 +34,7 @@ class Copy:
         text = right.text[start:right.end()]
         for change in sorted([renamed, *version.changes], key=lambda c: -c.start):
             text = text[:change.start - start] + change.new + text[change.end - start:]
-        self.text, self.proofs, self.rounds = "\n" + text, proofs, 0
+        self.text, self.proofs, self.rounds = "\n" + CYCLE.sub("", text), proofs, 0
 
     def proof(self, file, text):
         """A proof file in the copy's folder, with the copy's name in that of its goals."""
