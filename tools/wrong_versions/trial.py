@@ -42,13 +42,18 @@ def errors_of(said):
     return found
 
 
+def owns(name, function):
+    """Whether a method is one of the type with that name; the prover joins the trait's name to it, as in `RunEndFromOptionStop`."""
+    return name.startswith(function.owner) if function.of_trait else name == function.owner
+
+
 def is_proof_of(file, function, sign=""):
     """Whether a file is in the folder of a function's proof. Of a function that calls itself the folder's name begins with the sign +, and of its copy not."""
     parts = Path(file).parts
     if len(parts) < 3 or parts[0] != "proofs" or parts[-2] != sign + function.name:
         return False
     if function.owner:
-        return function.owner in parts[1:-2]
+        return any(owns(part, function) for part in parts[1:-2])
     return parts[1:-2] == ((function.module,) if function.module else ())
 
 
@@ -67,12 +72,17 @@ def said_of(said, function):
     return "\n".join(own)
 
 
+def is_path_of(parts, function):
+    """Whether the prover names a function so."""
+    if function.owner:
+        return len(parts) > 1 and parts[-1] == function.name and owns(parts[-2], function)
+    return parts[1:] == [part for part in (function.module, function.name) if part]
+
+
 def without_proof(said, function):
-    """What the prover says where it found no proof of a function, or None."""
-    own = [function.owner, function.name] if function.owner else [part for part in (function.module, function.name) if part]
+    """What the prover says where it found no proof of a function, or of any where none is given; or None."""
     for m in NO_PROOF.finditer(said):
-        parts = m["path"].split("::")
-        if own == (parts[-2:] if function.owner else parts[1:]):
+        if function is None or is_path_of(m["path"].split("::"), function):
             return one_line(m[0])[:300]
     return None
 
@@ -131,8 +141,7 @@ class Trial:
         elif "logic=not-proved" not in said:
             version.note("invalid", one_line(errors[0][2] if errors else said)[:200])
         else:
-            unproved = without_proof(said, version.function) if version.function else None
-            version.note(*(verdict_of(errors, unproved) or ("misfit", "no error of its own: " + said[-200:])))
+            version.note(*(verdict_of(errors, without_proof(said, version.function)) or ("misfit", "no error of its own: " + said[-200:])))
         return said
 
     def without_invalid(self, copies, lines, errors):
