@@ -8,7 +8,7 @@ from pathlib import Path
 
 from .version import Change, WrongVersion, one_line
 
-EQUIVALENT = "equivalent.txt"
+EQUIVALENT, COPIES = "equivalent.txt", "copies.txt"
 
 
 def entries_of(text, words=("file",)):
@@ -71,7 +71,7 @@ def folder_of(repo):
 
 
 def listed_crates(repo):
-    return sorted(path.stem for path in folder_of(repo).glob("*.txt") if path.name != EQUIVALENT)
+    return sorted(path.stem for path in folder_of(repo).glob("*.txt") if path.name not in (EQUIVALENT, COPIES))
 
 
 def entries_in(path, *words):

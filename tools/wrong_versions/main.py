@@ -6,7 +6,7 @@ import threading
 from concurrent.futures import ThreadPoolExecutor
 from pathlib import Path
 
-from . import __doc__ as how
+from . import __doc__ as how, record
 from .listed import EQUIVALENT, computes_the_same, listed, listed_crates
 from .made_up import in_order, made_up
 from .prover import AT_ONCE, Prover, all_proved, crate_lines
@@ -14,14 +14,16 @@ from .trial import Trial
 from .version import Crate
 
 USAGE = """tools/wrong-versions [--listed] [--sample N [--seed S] | --all] [CRATE..]
+tools/wrong-versions --copies [CRATE..]
 
 --listed    every wrong version of tests/wrong-versions/CRATE.txt
 --sample    N single errors made up in the bodies of the functions of all library crates, chosen by the seed
 --all       all of them
+--copies    a copy of each function as it is, and writes tests/wrong-versions/copies.txt: what else is tried has no need to look at these copies again
 
 The last line is 'N passed, M failed'. What is refused by a fact passes, and so does a made-up error that tests/wrong-versions/equivalent.txt has as one that
 computes the same, if it is proved. Misfits among made-up errors are counted apart, and fail where more than a tenth are. A table by crate stands before the
-last line. --repo names the folder with crates.txt, where rt proves the crates first; nothing else of it is written to."""
+last line. --repo names the folder with crates.txt, where rt proves the crates first."""
 VERDICTS = ("numbers", "goal", "misfit", "same", "survived", "invalid", "unknown")
 MOST_MISFITS = 0.1
 
@@ -78,7 +80,7 @@ def go(repo, work, tell):
     prover = Prover(repo, work.crate.name)
     try:
         prover.prepare()
-        Trial(prover, work.crate).some(work.listed, work.made, work.number, tell)
+        Trial(prover, work.crate, record.known(repo, work.crate)).some(work.listed, work.made, work.number, tell)
     finally:
         prover.remove()
 
@@ -87,9 +89,9 @@ def crates_of(given):
     """The names: those with a list, where it is asked for, and the library crates, where made-up errors are."""
     if given.crates:
         return given.crates
-    with_lists = listed_crates(given.repo) if given.listed else []
+    with_lists = listed_crates(given.repo) if given.listed or given.copies else []
     libraries = [name for name in crate_lines(given.repo) if Path(given.repo, "crates", name, "src/lib.rt").is_file()]
-    return sorted({*with_lists, *(libraries if given.sample or given.all else [])})
+    return sorted({*with_lists, *(libraries if given.sample or given.all or given.copies else [])})
 
 
 def works_of(given):
@@ -135,13 +137,18 @@ def main():
     parser.add_argument("crates", nargs="*", metavar="CRATE")
     parser.add_argument("--listed", action="store_true")
     parser.add_argument("--all", action="store_true")
+    parser.add_argument("--copies", action="store_true")
     parser.add_argument("--sample", type=int)
     parser.add_argument("--seed", default="1")
     parser.add_argument("--repo", default=".")
     given = parser.parse_args()
-    if given.all and given.sample or not (given.listed or given.all or given.sample):
+    tries = given.listed or given.all or given.sample
+    if given.all and given.sample or bool(tries) == given.copies:
         parser.print_usage(sys.stderr)
         return 2
+    if given.copies:
+        record.look(given.repo, crates_of(given))
+        return 0
     works, reasons = works_of(given), computes_the_same(given.repo)
     gone = stale(given, works, reasons)
     works = sorted((work for work in works if work.size()), key=lambda work: -work.size())

@@ -110,9 +110,9 @@ def parts_of(things):
 
 
 class Trial:
-    def __init__(self, prover, crate):
+    def __init__(self, prover, crate, has_copy):
         """Beside prover and crate the functions whose copies were looked at, and whether the copy as it is was proved."""
-        self.prover, self.crate, self.has_copy = prover, crate, {}
+        self.prover, self.crate, self.has_copy = prover, crate, has_copy
 
     def alone(self, version):
         """One in a run of its own. Where the proof only misses names, which the prover makes of the code, the names are brought to the code's."""
@@ -190,10 +190,21 @@ class Trial:
 
     def look_at_copies(self, functions):
         """A copy that isn't proved as it is would be refused for being a copy, whatever is wrong in it: such a function's versions are tried alone."""
+        with ThreadPoolExecutor(AT_ONCE) as pool:
+            list(pool.map(self.look_at_some, parts_of(functions)))
+
+    def look_at_some(self, functions):
         copies = [Copy(WrongVersion(self.crate.name, "as it is", f, [], ""), number, self.proofs_of(f)) for number, f in enumerate(functions)]
-        _, said = self.prover.run(placed(copies)[0])
+        left, said = copies, ""
+        while left:
+            changes, lines = placed(left)
+            _, said = self.prover.run(changes)
+            allowed = left if "logic=" in said else self.without_invalid(left, lines, errors_of(said))
+            if len(allowed) == len(left):
+                break
+            left = allowed
         for it in copies:
-            self.has_copy[it.version.function] = is_proved(said, it.function)
+            self.has_copy[it.version.function] = it in left and is_proved(said, it.function)
             if not self.has_copy[it.version.function]:
                 print("%s: tried alone, as a copy isn't proved as it is" % it.version.place(), flush=True)
 
@@ -214,8 +225,8 @@ class Trial:
         tell([v for v in versions if v.verdict is not None])
         left = [v for v in versions if v.verdict is None]
         new = dict.fromkeys(v.function for v in left if not v.stands_alone() and v.function not in self.has_copy)
+        self.look_at_copies(list(new))
         with ThreadPoolExecutor(AT_ONCE) as pool:
-            list(pool.map(self.look_at_copies, parts_of(list(new))))
             list(pool.map(lambda group: self.tried(group, tell), self.groups_of(left)))
 
     def some(self, versions, others, number, tell):

@@ -9,6 +9,11 @@ from .source import enums_of, functions_of, structs_of
 Change = collections.namedtuple("Change", "file start end new")
 
 
+def can_be_copied(function):
+    """Whether a function can stand in its file under another name: a trait or the program asks for some by their names."""
+    return not function.of_trait and function.name != "main"
+
+
 class WrongVersion:
     """What is wrong, the changes that make it so, and the function whose body holds them, if one does. A made-up one has the text that it is listed by:
     crate, file, function, the line and the line with the error."""
@@ -28,9 +33,8 @@ class WrongVersion:
         return self.verdict in ("numbers", "goal")
 
     def stands_alone(self):
-        """Whether no copy of a function can hold it: it isn't in one's body, or a trait or the program asks for the function by its name."""
-        f = self.function
-        return f is None or f.of_trait or f.name == "main"
+        """Whether no copy of a function can hold it."""
+        return self.function is None or not can_be_copied(self.function)
 
 
 def one_line(text):
