@@ -3,7 +3,8 @@
 THE FAST WAY. rt proves the crate and what it depends on (prover.py), and keeps what it proved. A copy of the crate is checked by `rattle check` with rt's own
 words, over a copy (hard links) of that, the incremental folder, which has each checked module of the prover. A module is taken from there only where its text
 and all that it rests on are what was checked: so the changed function is lowered and proved anew against its own contract; the functions that it calls, and
-those that have nothing to do with it, are taken as they were. Its callers are only put together again: they see nothing of it but its contract.
+those that have nothing to do with it, are taken as they were. Its callers are only put together again: they see nothing of it but its contract. Where several
+crates are asked for, one is proved after the other, and what is proved is tried meanwhile.
 
 WRONG VERSIONS TOGETHER. Reading the crate takes most of a run, so many are judged in one: each stands behind the right function as one of its own, under
 another name, with the same contract and a copy of the proof (copies.py), and is judged by the errors there. Nothing calls it, so the proof of none waits for

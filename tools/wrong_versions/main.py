@@ -9,7 +9,7 @@ from pathlib import Path
 from . import __doc__ as how, record
 from .listed import EQUIVALENT, computes_the_same, listed, listed_crates
 from .made_up import in_order, made_up
-from .prover import AT_ONCE, Prover, all_proved, crate_lines
+from .prover import Prover, Proofs, crate_lines
 from .trial import Trial
 from .version import Crate
 
@@ -76,8 +76,8 @@ def line_of(v):
     return "%s: %s [%s] %s" % (v.verdict.upper(), v.place(), v.what, v.shown) + why
 
 
-def go(repo, work, tell):
-    prover = Prover(repo, work.crate.name)
+def go(repo, proofs, work, tell):
+    prover = Prover(repo, work.crate.name, proofs)
     try:
         prover.prepare()
         Trial(prover, work.crate, record.known(repo, work.crate)).some(work.listed, work.made, work.number, tell)
@@ -152,8 +152,8 @@ def main():
     works, reasons = works_of(given), computes_the_same(given.repo)
     gone = stale(given, works, reasons)
     works = sorted((work for work in works if work.size()), key=lambda work: -work.size())
-    all_proved(given.repo, [work.crate.name for work in works])
-    tell = teller(reasons)
-    with ThreadPoolExecutor(AT_ONCE) as pool:
-        list(pool.map(lambda work: go(given.repo, work, tell), works))
+    proofs, tell = Proofs(given.repo, [work.crate.name for work in works]), teller(reasons)
+    # All at once: how many runs go side by side is the prover's.
+    with ThreadPoolExecutor(len(works) or 1) as pool:
+        list(pool.map(lambda work: go(given.repo, proofs, work, tell), works))
     return 0 if counted(works, gone) else 1

@@ -42,18 +42,35 @@ def below(lines, name):
     return found
 
 
-def all_proved(repo, crates):
-    """Proves some crates as they are, and what they depend on first: rt keeps what it proves in each crate's out/, and takes what has not changed from there."""
-    lines = crate_lines(repo)
-    unknown = [name for name in crates if name not in lines]
-    if unknown:
-        raise SystemExit("crates.txt has no " + unknown[0])
-    wanted = {it for name in crates for it in [*below(lines, name), name]}
-    for name in sorted(wanted, key=lambda it: (len(below(lines, it)), it)):
-        words = ["rt", "check" if is_program(repo, name) else "lib"]
-        done = subprocess.run(words, cwd=Path(repo, "crates", name), stdin=subprocess.DEVNULL, stdout=subprocess.PIPE, stderr=subprocess.STDOUT, text=True)
-        if done.returncode != 0:
-            raise SystemExit("%s isn't proved as it is:\n%s" % (name, done.stdout[-2000:]))
+class Proofs:
+    """Crates proved as they are, behind what they depend on, one after the other, beside what is tried of those that are. rt keeps what it proves in each crate's
+    out/, and takes what has not changed from there."""
+
+    def __init__(self, repo, crates):
+        self.repo, lines = repo, crate_lines(repo)
+        unknown = [name for name in crates if name not in lines]
+        if unknown:
+            raise SystemExit("crates.txt has no " + unknown[0])
+        wanted = {it for name in crates for it in [*below(lines, name), name]}
+        self.order = sorted(wanted, key=lambda it: (len(below(lines, it)), it))
+        # Where several are asked for, the other processors have something to try.
+        self.jobs = ["--jobs", "1"] if len(crates) > 1 else []
+        self.ended, self.failed = {name: threading.Event() for name in self.order}, None
+        threading.Thread(target=self.go, daemon=True).start()
+
+    def go(self):
+        for name in self.order:
+            words = ["rt", "check" if is_program(self.repo, name) else "lib", *self.jobs]
+            how = {"cwd": Path(self.repo, "crates", name), "stdin": subprocess.DEVNULL, "stdout": subprocess.PIPE, "stderr": subprocess.STDOUT}
+            done = subprocess.run(words, text=True, **how) if self.failed is None else None
+            if done and done.returncode != 0:
+                self.failed = "%s isn't proved as it is:\n%s" % (name, done.stdout[-2000:])
+            self.ended[name].set()
+
+    def wait(self, name):
+        self.ended[name].wait()
+        if self.failed is not None:
+            raise SystemExit(self.failed)
 
 
 def linked(folder, to):
@@ -71,8 +88,8 @@ def linked(folder, to):
 
 
 class Prover:
-    def __init__(self, repo, crate):
-        self.repo, self.crate = Path(repo).resolve(), crate
+    def __init__(self, repo, crate, proofs):
+        self.repo, self.crate, self.proofs = Path(repo).resolve(), crate, proofs
         self.kit = Path(os.environ.get("RATTLE_HOME") or Path(shutil.which("rt")).resolve().parent.parent)
         self.lines = crate_lines(repo)
         self.folder = self.repo / "crates" / crate
@@ -97,7 +114,8 @@ class Prover:
         return [str(word) for word in words + ["--incremental", copy / "inc"]]
 
     def prepare(self):
-        """Checks a copy of the crate as it is over what rt has kept of it, and keeps that: see all_proved."""
+        """Checks a copy of the crate as it is over what rt has kept of it, and keeps that."""
+        self.proofs.wait(self.crate)
         if (self.folder / "out/incremental").is_dir():
             linked(self.folder / "out/incremental", self.kept)
         self.kept.mkdir(exist_ok=True)

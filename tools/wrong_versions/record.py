@@ -8,7 +8,7 @@ from pathlib import Path
 
 from . import copies
 from .listed import COPIES, folder_of
-from .prover import AT_ONCE, Prover, all_proved
+from .prover import Prover, Proofs
 from .trial import Trial
 from .version import Crate, can_be_copied
 
@@ -52,9 +52,9 @@ def known(repo, crate):
     return {f: name_of(f) not in alone for f in crate.functions}
 
 
-def tried(repo, name):
+def tried(repo, proofs, name):
     """A crate, and for each function that can be copied whether its copy is proved as it is."""
-    crate, prover = Crate(repo, name), Prover(repo, name)
+    crate, prover = Crate(repo, name), Prover(repo, name, proofs)
     trial = Trial(prover, crate, {})
     try:
         prover.prepare()
@@ -73,8 +73,8 @@ def line_of(crate, has_copy):
 
 def look(repo, names):
     """Tries the copies of some crates' functions as they are, and writes these crates' lines anew."""
-    all_proved(repo, names)
-    with ThreadPoolExecutor(AT_ONCE) as pool:
-        new = {crate.name: line_of(crate, has_copy) for crate, has_copy in pool.map(lambda name: tried(repo, name), names)}
+    proofs = Proofs(repo, names)
+    with ThreadPoolExecutor(len(names)) as pool:
+        new = {crate.name: line_of(crate, has_copy) for crate, has_copy in pool.map(lambda name: tried(repo, proofs, name), names)}
     lines = {**{name: m[0] for name, m in lines_of(repo).items()}, **new}
     path_of(repo).write_text(HEAD + "".join(line + "\n" for _, line in sorted(lines.items())))
