@@ -46,7 +46,7 @@ fn with_month(day: Day) -> MonthDay
     requires { day.0 ≤ last_day_number }
     ensures { result ≡ with_month day }
 {
-    let month = calendar::month_of_day(day).unwrap_or(0);
+    let month = calendar::month_of_day(day).unwrap();
     MonthDay { day, month }
 }
 

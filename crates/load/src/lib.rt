@@ -39,12 +39,12 @@ fn draw(x: u32) -> u32
 }
 
 // The date of a day number.
+#[tactic(auto, unfolding(calendar::specs::DayAnswers::date_at))]
 fn date_on(day: Day) -> Date
     requires { day.0 ≤ last_day_number }
     ensures { result ≡ date_of day.0 }
 {
-    // No day of a load is past the calendar's last.
-    calendar::date_of_day(day).unwrap_or(NO_DATE)
+    calendar::date_of_day(day).unwrap()
 }
 
 // The last two draws of a claim, from the x that the third set: what a closed claim ends with, and the x reached. They are made of an open claim

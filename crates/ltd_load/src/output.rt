@@ -24,11 +24,7 @@ impl DueClaim {
     fn step(self) -> LoadedClaim
         ensures { result ≡ record { claim = load_claim self.x self.number; x = drawn 5 self.x } }
     {
-        // No claim that is due is refused.
-        load::load_claim(self.x, self.size, self.number).unwrap_or(LoadedClaim {
-            claim: no_claim(),
-            x: self.x,
-        })
+        load::load_claim(self.x, self.size, self.number).unwrap()
     }
 
     // How many claims the block has that starts with the claim due.

@@ -2,7 +2,7 @@
 -- Assumes nothing.
 use Prim.Native.Nat.{ℕ, zero, suc, ◌+◌, ◌-◌, ◌*◌, ◌/◌, ◌%◌, ◌<◌, ◌≤◌}
 use mathlib.Core.Path.{◌≡◌, refl, sym, ap, ◌∙◌}
-use mathlib.Core.Bool.{Bool, true, false, ◌&&◌}
+use mathlib.Core.Bool.{Bool, true, ◌&&◌}
 use mathlib.Core.List.{List, [], ◌∷◌}
 use native.Mathlib.Nat.{sub-zero}
 use native.Mathlib.Numerals.{add-one}
@@ -67,15 +67,15 @@ module _ (bytes : List ℕ) (k : ℕ) (h : k < records bytes) where
   unfolding record_in
   read_at = rw (le-leb (32 * k + 32) (length bytes) (omega tests))
 
-  pub no_record : None ≡ record_in bytes (32 * k) → record_padded bytes (32 * k) ≡ false
-  no_record e =
-      by (record_padded bytes (32 * k)) (λ t. None ≡ pick t (Some (claim_from bytes (32 * k))) None → t ≡ false)
-      (λ q f. let z : ◌≡◌ {A = ℕ} 0 1 = cc in absurd (omega tests)) (λ q f. refl) (e ∙ read_at)
+  module _ (z : record_padded bytes (32 * k) ≡ true) where
+    has-record : record_in bytes (32 * k) ≡ Some (claim_from bytes (32 * k))
+    has-record = rw z at read_at
 
-  pub found : (c : Claim) → Some c ≡ record_in bytes (32 * k) → (record_padded bytes (32 * k) ≡ true) × (c ≡ claim_from bytes (32 * k))
-  found c e =
-      by (record_padded bytes (32 * k)) (λ t. Some c ≡ pick t (Some (claim_from bytes (32 * k))) None → (t ≡ true) × (c ≡ claim_from bytes (32 * k)))
-      (λ q f. (refl, cc)) (λ q f. let z : ◌≡◌ {A = ℕ} 0 1 = cc in absurd (omega tests)) (e ∙ read_at)
+    pub record-there : is_some (record_in bytes (32 * k)) ≡ true
+    record-there = ap (λ (o : Option Claim). is_some o) has-record
+
+    pub its-claim : (c : Claim) → record_in bytes (32 * k) ≡ Some c → c ≡ claim_from bytes (32 * k)
+    its-claim c e = cc (e, has-record)
 
 -- the n records from record k on are all read where their zero bytes are zero
 pub all-read : (bytes : List ℕ) (k n : ℕ) → 32 * (k + n) ≤ length bytes

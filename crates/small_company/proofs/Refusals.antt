@@ -5,7 +5,7 @@ use mathlib.Core.Path.{◌≡◌, refl}
 use Rattle.basics.specs.declared.refusal.Refusal.{Refusal}
 pub use Rattle.basics.proofs.Refused.{not-zero, passed_on}
 use Rattle.basics.proofs.Tests.{tests}
-use Rattle.std.specs.Prelude.{Option, Some, None, Result, Ok, Err, IsErr, IsErrAnd, ok_or}
+use Rattle.std.specs.Prelude.{Option, Some, None, Result, Err, IsErr, IsErrAnd, ok_or}
 
 -- the refusal given where there was no value
 pub from-none : {A B : Type 0} (m : Option A) (d e : Refusal) (r : Result B Refusal) → Err e ≡ ok_or m d → IsErr r × IsErrAnd r (λ x. x ≡ e)

@@ -67,8 +67,7 @@ fn first_within(date: Date) -> Day
     if date.year < 1952 {
         return Day(0);
     }
-    // Never day 0 by this: two years before a date from 1952 on there is one.
-    calendar::day_number(two_years_before(date)).unwrap_or(Day(0))
+    calendar::day_number(two_years_before(date)).unwrap()
 }
 
 // Both counts with one more claim.
@@ -78,10 +77,7 @@ fn count_one(counts: Counts, claim: Claim, first: Day, last: Day) -> Counts
     requires earlier_bound { counts.earlier < 18446744073709551615 }
     ensures { result ≡ with_one first.0 last.0 counts claim }
 {
-    let Some(disabled) = calendar::day_number(claim.disability) else {
-        // Never: the claim passed its checks.
-        return counts;
-    };
+    let disabled = calendar::day_number(claim.disability).unwrap();
     if claim.status != 0 || disabled.0 > last.0 {
         return counts;
     }
@@ -109,8 +105,7 @@ fn count_claims(bytes: &[u8], first: Day, last: Day) -> Result<Counts, Refusal>
     let count = bytes.len() / 32;
     // Kept: over `as_chunks::<32>()` the proof that a chunk's claim is the list's claim at its place didn't close.
     for place in 0..count {
-        // Never refused 11: the list is made of records.
-        let claim = read_record(bytes, 32 * place).ok_or(Refusal::Block)?;
+        let claim = read_record(bytes, 32 * place).unwrap();
         claim_months::check::check(claim)?;
         counts = count_one(counts, claim, first, last);
     }

@@ -2,7 +2,6 @@
 -- Assumes nothing.
 use mathlib.Core.Path.{◌≡◌, sym, ap, ◌∙◌}
 use mathlib.Core.Bool.{true}
-use Rattle.calendar.specs.Calendar.{day_number}
 use Rattle.small_company.specs.Company.{company_by_number}
 use Rattle.small_company.specs.SmallCompany.{list_sound, listed_claims}
 use Rattle.small_company.specs.design.Private.{counted_of}
