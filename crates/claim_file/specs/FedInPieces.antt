@@ -1,5 +1,5 @@
 -- A file fed in pieces of whole blocks is the file fed at once.
-use Rattle.std.specs.Prelude.{ℕ, ◌+◌, ◌%◌, ◌≡◌, List, ◌++◌, length}
+use Rattle.std.specs.Prelude.{ℕ, ◌%◌, ◌≡◌, List, ◌++◌, length}
 use Rattle.basics.specs.Limits.{block_bytes}
 use Rattle.claim_file.specs.Runs.{FileRun}
 use Rattle.claim_file.specs.Run.{Adding, fed}

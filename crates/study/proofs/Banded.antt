@@ -1,14 +1,14 @@
 -- A band of months as the code has it: what the months up to its end have, less what those before it have. One law serves thirtieths, recoveries and deaths.
 -- Assumes nothing.
-use Prim.Native.Nat.{ℕ, zero, suc, ◌+◌, ◌-◌, ◌*◌, ◌≤◌, ◌<◌}
+use Prim.Native.Nat.{ℕ, zero, suc, ◌+◌, ◌-◌, ◌≤◌}
 use mathlib.Core.Path.{◌≡◌, refl, sym, ap, ap₂, ◌∙◌}
 use native.Mathlib.Omega.{arith}
 use native.Mathlib.Nat.{add-zero, add-suc}
-use native.Mathlib.Numerals.{add-one}
 use lib.IntN.{ℤ, pos, negsuc, nat_abs, neg_ℤ, ◌+ℤ◌, ◌-ℤ◌, ◌*ℤ◌, +ℤ_idl, +ℤ_idr, +ℤ_assoc, +ℤ_comm, +ℤ_invr, neg_ℤ-+ℤ, zero-*ℤ}
 use Rattle.basics.specs.Series.{sum_to}
 use Rattle.basics.proofs.Integers.{times-sum, interchange, size-sum}
 use Rattle.claim_months.specs.Span.{band_sum}
+use Rattle.claim_months.proofs.SpanIsBand.{ones_over}
 use Rattle.rates.specs.design.Prepared.{rates_over}
 use Rattle.rates.proofs.Laws.{over-is, over-more}
 
@@ -22,9 +22,8 @@ size-difference x y = omega (arith, size-sum x (neg_ℤ y), size-opposite y)
 
 -- each month counts one
 pub ones : (d n : ℕ) → rates_over (λ d. pos 1) d n ≡ pos n
-unfolding rates_over sum_to
-ones d zero = refl
-ones d (suc n) = ap (λ (z : ℤ). z +ℤ pos 1) (ones d n) ∙ ap pos (add-one n)
+unfolding rates_over
+ones d n = ones_over n
 
 -- a stretch behind another
 over-apart : (w : ℕ → ℤ) (s n m : ℕ) → 2 ≤ s → rates_over w s (n + m) ≡ rates_over w s n +ℤ rates_over w (s + n) m

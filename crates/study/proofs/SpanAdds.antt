@@ -20,7 +20,7 @@ use Rattle.claim_months.specs.declared.Span.{Span}
 use Rattle.claim_months.specs.Claim.{weight}
 use Rattle.claim_months.specs.Span.{span_in}
 use Rattle.rates.specs.declared.Kind.{Kind}
-use Rattle.rates.specs.design.Prepared.{table_check_of, recovery_of, death_of, part_recovery, part_death}
+use Rattle.rates.specs.design.Prepared.{table_check_of, part_recovery, part_death}
 use Rattle.rates.proofs.Parts.{cell_part, cell-within, part-recovery, part-death}
 use Rattle.study.specs.declared.Study.{Study}
 use Rattle.study.specs.design.LentAdding.{guarded_plus, added_to_lent}

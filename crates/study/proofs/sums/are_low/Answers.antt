@@ -1,12 +1,11 @@
 -- `study::sums::are_low` meets its contract: the bits of six sums are those of the definition, and where they are low each sum is.
 -- Assumes nothing.
-use Prim.Native.Nat.{ℕ, ◌+◌, ◌-◌, ◌*◌, ◌/◌, ◌≤◌}
+use Prim.Native.Nat.{◌+◌, ◌-◌, ◌*◌}
 use mathlib.Core.Path.{◌≡◌, refl}
 use native.Mathlib.Omega.{arith}
 use lib.Bits.{bit_or}
-use lib.IntN.{ℤ, nat_abs}
 use Rattle.std.proofs.Common.{rules, to_z, of_z, w64}
-use Rattle.study.specs.design.Private.{three_bits, six_low, LowColumn}
+use Rattle.study.specs.design.Private.{three_bits, six_low}
 use Rattle.study.proofs.Algebra.{at}
 use Rattle.study.proofs.Low.{bits-low, or-low, both-low, at-place}
 use Rattle.study.proofs.sums.are_low.Goals as goal

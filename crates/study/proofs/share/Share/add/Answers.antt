@@ -1,21 +1,20 @@
 -- `study::share::Share::add` meets its contract. Invariant: what the months before the next band have stands ready, they were added to the sums, and they
 -- are in earlier groups. Measure: the months past the end of the band.
 -- Assumes nothing.
-use Prim.Native.Nat.{ℕ, ◌+◌, ◌-◌, ◌*◌, ◌≤◌, ◌<◌, min}
-use mathlib.Core.Path.{◌≡◌, refl, sym, ap, ap₂, ◌∙◌}
+use Prim.Native.Nat.{ℕ, ◌+◌, ◌-◌, ◌≤◌}
+use mathlib.Core.Path.{◌≡◌, refl, ap, ap₂, ◌∙◌}
 use mathlib.Core.List.{List}
 use native.Mathlib.Omega.{arith}
-use lib.IntN.{ℤ, pos, nat_abs, ◌-ℤ◌}
+use lib.IntN.{ℤ, pos, ◌-ℤ◌}
 use Rattle.basics.proofs.Integers.{size-sum}
 use Rattle.claim_months.specs.declared.Span.{Span}
 use Rattle.claim_months.specs.Span.{span_b, SpanBounds}
-use Rattle.rates.specs.Rates.{group_of, group_last, last_of}
 use Rattle.rates.specs.design.Prepared.{part_recovery, part_death}
 use Rattle.rates.proofs.Laws.{group-low, group-high}
 use Rattle.study.specs.design.LentAdding.{guarded_plus}
 use Rattle.study.specs.design.Private.{months_figure, closing_figure, share_by, three_raised}
 use Rattle.study.proofs.Banded.{before_at, banded, before-is, up_to_is, whole_before, whole-up_to, size-difference}
-use Rattle.study.proofs.NextBand.{NextBand, full, last-short, all-months, some, turn-end, turn-next, last-end, last-group}
+use Rattle.study.proofs.NextBand.{full, last-short, all-months, some, turn-end, turn-next, last-end, last-group}
 use Rattle.study.proofs.Raised.{B-first, B-later, none-raised, no-months, no-share, band-raised, before-none, before-step, span-added}
 use Rattle.study.proofs.share.Share.add.Goals as goal
 
