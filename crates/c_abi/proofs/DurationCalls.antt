@@ -1,9 +1,9 @@
 -- What is answered and stored of the rows of a file, with rates and with their prepared table. Assumes nothing.
 use mathlib.Core.Path.{◌≡◌, refl, sym, ap, ◌∙◌}
-use mathlib.Core.Bool.{Bool, true}
+use mathlib.Core.Bool.{true}
 use mathlib.Core.List.{List, ◌++◌}
-use lib.IntN.{ℤ, pos}
-use lib.ListN.{length, get_or}
+use lib.IntN.{ℤ}
+use lib.ListN.{length}
 use Prim.Native.Nat.{ℕ}
 use Rattle.std.proofs.Common.{map}
 use Rattle.basics.specs.Pick.{pick}

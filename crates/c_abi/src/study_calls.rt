@@ -34,9 +34,7 @@ fn sums_in(list: &[i64]) -> [i64; 80]
     requires { 83 ≤ length list.now }
     ensures { result ≡ sums_in list.now }
 {
-    let mut sums = [0; 80];
-    sums.copy_from_slice(&list[3..83]);
-    sums
+    <[i64; 80]>::try_from(&list[3..83]).unwrap()
 }
 
 // The study that a list holds.
