@@ -7,7 +7,7 @@ import threading
 from pathlib import Path
 
 # Of the processor, for one run: a busy machine makes no verdict another.
-SECONDS = 1200
+SECONDS = 3600
 # Runs side by side, of any crates: each takes a processor, and 1 to 4 GB.
 AT_ONCE = min(4, os.cpu_count() or 1)
 SIDE_BY_SIDE = threading.BoundedSemaphore(AT_ONCE)

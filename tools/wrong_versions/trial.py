@@ -8,7 +8,8 @@ from .names import ROUNDS, respelled
 from .prover import AT_ONCE
 from .version import Change, WrongVersion, one_line
 
-TOGETHER = 16
+# A run reads the crate once for all of them.
+TOGETHER = 48
 ERROR = re.compile(r"^(?:\./)?(?P<file>[^\s:]+):(?P<line>\d+):\d+: error(?:\[[\w-]+\])?: (?P<text>.*)$")
 # A goal without an answer in a file, for which the prover's own search finds no proof but numbers.
 FALSE = re.compile(r"^note: (?P<text>`[^`]+` of (?:\./)?(?P<file>\S+) may be false: .*)$")
