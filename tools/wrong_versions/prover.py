@@ -9,7 +9,7 @@ from pathlib import Path
 # Of the processor, for one run: a busy machine makes no verdict another.
 SECONDS = 3600
 # Runs side by side, of any crates: each takes a processor, and 1 to 4 GB.
-AT_ONCE = min(4, os.cpu_count() or 1)
+AT_ONCE = min(4, len(os.sched_getaffinity(0)))
 SIDE_BY_SIDE = threading.BoundedSemaphore(AT_ONCE)
 
 

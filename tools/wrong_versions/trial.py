@@ -107,7 +107,10 @@ def is_proved(said, function):
 
 
 def parts_of(things):
-    return [things[k:k + TOGETHER] for k in range(0, len(things), TOGETHER)]
+    """Parts of one size, of TOGETHER at the most: the last run takes no longer than others."""
+    number = max(1, -(-len(things) // TOGETHER))
+    size = max(1, -(-len(things) // number))
+    return [things[k:k + size] for k in range(0, len(things), size)]
 
 
 class Trial:
