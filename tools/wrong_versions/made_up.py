@@ -130,16 +130,19 @@ def never(f, a, b):
 
 
 def conditions(crate, f, k):
-    """A condition negated; an early return, or all that an if does, left out: by a condition that never holds, where there is one that the proof's text fits."""
+    """A condition negated, that of an arm too; an early return, or all that an if does, left out: by a condition that never holds, where there is one that the
+    proof's text fits."""
     ts = f.tokens
     if ts[k].text not in ("if", "while") or ts[k + 1].text == "let":
         return
     body, depth = k + 1, 0
-    while ts[body].text != "{" or depth:
+    while ts[body].text not in ("{", "=>") or depth:
         depth += deeper(ts[body])
         body += 1
     start, end = ts[k + 1].start, ts[body - 1].end
     yield "negated", start, end, f.text[ts[k + 2].start:end] if ts[k + 1].text == "!" else "!(%s)" % f.text[start:end]
+    if ts[body].text == "=>":
+        return
     last = closing(ts, body)
     alone = ts[last + 1].text != "else" and ts[k - 1].text in STATEMENT_ENDS and ts[last - 1].text in (";", "}")
     if ts[k].text == "if" and alone:
