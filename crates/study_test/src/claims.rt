@@ -1,5 +1,4 @@
 // The list of claims that every study here gets.
-// Kept: `pool_test` has builders of its own, which set cell and benefit too: shared ones would ask for both at each of these lines.
 use claim_months::Claim;
 use test_support::dates::date;
 
@@ -20,7 +19,7 @@ fn with_cell(disability: u32, bcd: u32, cell: u16) -> Claim {
     }
 }
 
-fn still_open(disability: u32, bcd: u32) -> Claim {
+pub(crate) fn still_open(disability: u32, bcd: u32) -> Claim {
     with_cell(disability, bcd, 0)
 }
 
@@ -34,7 +33,7 @@ fn with_status(disability: u32, bcd: u32, termination: u32, status: u8, code: u8
     }
 }
 
-fn closed(disability: u32, bcd: u32, termination: u32, code: u8) -> Claim {
+pub(crate) fn closed(disability: u32, bcd: u32, termination: u32, code: u8) -> Claim {
     with_status(disability, bcd, termination, 1, code)
 }
 

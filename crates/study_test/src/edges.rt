@@ -3,9 +3,8 @@ ghost use Rattle.std.specs.Prelude.{◌+◌, ◌<◌, ◌≤◌};
 
 use crate::claims::claim;
 use crate::figures::put_answer;
+use crate::studies::study_of;
 use basics::refusal::number_in;
-use calendar::Day;
-use claim_months::Window;
 use std::io;
 use study::Study;
 use test_support::dates::date;
@@ -99,14 +98,7 @@ fn made_sums() -> [i64; 80] {
 
 // A study of a window, with claims taken and sums and counts that no claim gave it.
 pub(crate) fn made(first: u32, last: u32, taken: u32) -> Study {
-    Study {
-        window: Window {
-            first: Day(first),
-            last: Day(last),
-        },
-        taken,
-        sums: made_sums(),
-    }
+    study_of(first, last, taken, made_sums())
 }
 
 // The same from 2009 to 2017.

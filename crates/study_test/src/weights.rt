@@ -2,7 +2,7 @@
 use crate::claims::claim;
 use crate::edges::{with_number, with_sum};
 use crate::figures::{figures, put_groups, weighted_figures, with_weighted};
-use crate::opened;
+use crate::studies::opened;
 use basics::refusal::number_in;
 use claim_months::Claim;
 use std::io;

@@ -4,14 +4,13 @@ use crate::edges::{full, given, made, with_sum};
 use crate::figures::{
     figures, put_answer, put_groups, weighted_figures, with_study, with_weighted,
 };
-use crate::opened;
+use crate::studies::{after, opened};
 use crate::weights::{weighing, with_claim};
-use basics::refusal::number_in;
 use claim_months::Claim;
 use std::io;
-use study::{Answer, Study};
+use study::Study;
 use test_support::lists::same;
-use test_support::print::{put, put_named, put_next, put_yes};
+use test_support::print::{put, put_next, put_yes};
 
 pub(crate) fn withdrawals(rt: &impl Print, table: &[u32; 1916]) -> io::Result<()> {
     moves(rt, table)?;
@@ -19,17 +18,6 @@ pub(crate) fn withdrawals(rt: &impl Print, table: &[u32; 1916]) -> io::Result<()
     closings(rt, table)?;
     bounds(rt, table)?;
     orders(rt, table)
-}
-
-fn put_move(rt: &impl Print, sign: &[u8], place: u32, refused: u8) -> io::Result<()> {
-    put_named(rt, sign, place as u64)?;
-    put_named(rt, b":", refused as u64)
-}
-
-// The study after the claim at a place is added or withdrawn, which is printed with the number refused.
-fn after(rt: &impl Print, sign: &[u8], place: u32, answer: Answer) -> io::Result<Study> {
-    put_move(rt, sign, place, number_in(answer.refused))?;
-    Ok(answer.study)
 }
 
 fn added(
