@@ -20,6 +20,10 @@ size-opposite (negsuc n) = refl
 pub size-difference : (x y : ℤ) → nat_abs (x -ℤ y) ≤ nat_abs x + nat_abs y
 size-difference x y = omega (arith, size-sum x (neg_ℤ y), size-opposite y)
 
+-- what is left of w without s and without b
+pub size-left : (w s b m l : ℤ) → m ≡ w -ℤ s → l ≡ m -ℤ b → nat_abs l ≤ nat_abs w + nat_abs s + nat_abs b
+size-left w s b m l em el = rw (el, em) (omega (arith, size-difference w s, size-difference (w -ℤ s) b))
+
 -- each month counts one
 pub ones : (d n : ℕ) → rates_over (λ d. pos 1) d n ≡ pos n
 unfolding rates_over

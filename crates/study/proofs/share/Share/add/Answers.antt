@@ -13,7 +13,7 @@ use Rattle.rates.specs.design.Prepared.{part_recovery, part_death}
 use Rattle.rates.proofs.Laws.{group-low, group-high}
 use Rattle.study.specs.design.LentAdding.{guarded_plus}
 use Rattle.study.specs.design.Private.{months_figure, closing_figure, share_by, three_raised}
-use Rattle.study.proofs.Banded.{before_at, banded, before-is, up_to_is, whole_before, whole-up_to, size-difference}
+use Rattle.study.proofs.Banded.{before_at, banded, before-is, up_to_is, whole_before, whole-up_to, size-difference, size-left}
 use Rattle.study.proofs.NextBand.{full, last-short, all-months, some, turn-end, turn-next, last-end, last-group}
 use Rattle.study.proofs.Raised.{B-first, B-later, none-raised, no-months, no-share, band-raised, before-none, before-step, span-added}
 use Rattle.study.proofs.share.Share.add.Goals as goal
@@ -159,6 +159,12 @@ loop-end-preserved c =
 pub less-requires-2-clause-thirtieths_bound : goal.less-requires-2-clause-thirtieths_bound
 less-requires-2-clause-thirtieths_bound c = rw c.less-all.ensures.thirtieths_value (omega (arith, c.loop-end.invariant.0.few, size-difference c.whole_months-2.result.thirtieths c.part_month-short.result.thirtieths))
 
+pub less-requires-2-clause-recoveries_bound : goal.less-requires-2-clause-recoveries_bound
+less-requires-2-clause-recoveries_bound c = rw c.less-all.ensures.recoveries_value (omega (arith, c.loop-end.invariant.0.few-recoveries, size-difference c.whole_months-2.result.recoveries c.part_month-short.result.recoveries))
+
+pub less-requires-2-clause-deaths_bound : goal.less-requires-2-clause-deaths_bound
+less-requires-2-clause-deaths_bound c = rw c.less-all.ensures.deaths_value (omega (arith, c.loop-end.invariant.0.few-deaths, size-difference c.whole_months-2.result.deaths c.part_month-short.result.deaths))
+
 pub raise_amounts-requires-2-clause-le_group : goal.raise_amounts-requires-2-clause-le_group
 raise_amounts-requires-2-clause-le_group c = let n = c.loop-end.invariant.0 in rw n.group (group-low n.d)
 
@@ -170,15 +176,20 @@ add_closing-requires-clause-group_value c =
     let n = c.loop-end.invariant.0 in
     last-group c.args.self.span c.args.self.span_bounds n.d _ _ _ n.low n.inside n.group n.ends c.loop-end.invariant.1 (omega arith)
 
+pub raise_amounts-requires-2-clause-thirtieths_bound : goal.raise_amounts-requires-2-clause-thirtieths_bound
+raise_amounts-requires-2-clause-thirtieths_bound c =
+    let left = size-left c.whole_months-2.result.thirtieths c.part_month-short.result.thirtieths c.loop-end.before.thirtieths _ _ c.less-all.ensures.thirtieths_value c.less-2.ensures.thirtieths_value in
+    omega (arith, c.loop-end.invariant.0.few, left)
+
+pub raise_amounts-requires-2-clause-recoveries_bound : goal.raise_amounts-requires-2-clause-recoveries_bound
+raise_amounts-requires-2-clause-recoveries_bound c =
+    let left = size-left c.whole_months-2.result.recoveries c.part_month-short.result.recoveries c.loop-end.before.recoveries _ _ c.less-all.ensures.recoveries_value c.less-2.ensures.recoveries_value in
+    omega (arith, c.loop-end.invariant.0.few-recoveries, left)
+
 pub raise_amounts-requires-2-clause-deaths_bound : goal.raise_amounts-requires-2-clause-deaths_bound
 raise_amounts-requires-2-clause-deaths_bound c =
-    rw (c.less-2.ensures.deaths_value, c.less-all.ensures.deaths_value)
-    (omega (
-      arith,
-      c.loop-end.invariant.0.few-deaths,
-      size-difference c.whole_months-2.result.deaths c.part_month-short.result.deaths,
-      size-difference (c.whole_months-2.result.deaths -ℤ c.part_month-short.result.deaths) c.loop-end.before.deaths,
-    ))
+    let left = size-left c.whole_months-2.result.deaths c.part_month-short.result.deaths c.loop-end.before.deaths _ _ c.less-all.ensures.deaths_value c.less-2.ensures.deaths_value in
+    omega (arith, c.loop-end.invariant.0.few-deaths, left)
 
 pub returns : goal.returns
 unfolding three_raised
