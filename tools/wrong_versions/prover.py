@@ -1,5 +1,6 @@
 """The prover over a crate's incremental folder: the fast way."""
 import os
+import re
 import shutil
 import subprocess
 import tempfile
@@ -11,6 +12,8 @@ SECONDS = 3600
 # Runs side by side, of any crates: each takes a processor, and 1 to 4 GB.
 AT_ONCE = min(4, len(os.sched_getaffinity(0)))
 SIDE_BY_SIDE = threading.BoundedSemaphore(AT_ONCE)
+# What is said of a function that isn't proved, and is no copy.
+NOT_PROVED = re.compile(r"^fn (?!\S*_wrong_)\S+: (?!proved)", re.M)
 
 
 class Listed:
@@ -95,7 +98,7 @@ class Prover:
         self.folder = self.repo / "crates" / crate
         # Beside the system's other temporary files: rt refuses a file of Rattle or antt of the repository that stands in no crate.
         self.room = Path(tempfile.mkdtemp(prefix="wrong-versions-%s-" % crate))
-        self.kept = self.room / "kept"
+        self.kept, self.is_seen = self.room / "kept", False
 
     def words(self, copy):
         """As rt's own for `rattle check`, of a copy."""
@@ -114,19 +117,22 @@ class Prover:
         return [str(word) for word in words + ["--incremental", copy / "inc"]]
 
     def prepare(self):
-        """Checks a copy of the crate as it is over what rt has kept of it, and keeps that."""
+        """Takes what rt has kept of the crate as it is, once that is proved."""
         self.proofs.wait(self.crate)
         if (self.folder / "out/incremental").is_dir():
             linked(self.folder / "out/incremental", self.kept)
         self.kept.mkdir(exist_ok=True)
-        with SIDE_BY_SIDE:
-            copy = self.write_copy([])
-            status, said = self.checked(copy)
-        if status != 0 or "logic=proved" not in said:
+
+    def seen(self, said):
+        """Notes that a run proves what it leaves as it is. Without that no verdict over what was kept says anything."""
+        if "logic=" not in said or NOT_PROVED.search(said):
             raise SystemExit("%s isn't proved as it is:\n%s" % (self.crate, said[-2000:]))
-        shutil.rmtree(self.kept)
-        (copy / "inc").rename(self.kept)
-        shutil.rmtree(copy)
+        self.is_seen = True
+
+    def see(self):
+        """Checks the crate as it is, unless a run of copies has shown that it is proved."""
+        if not self.is_seen:
+            self.seen(self.run([])[1])
 
     def remove(self):
         shutil.rmtree(self.room, ignore_errors=True)

@@ -179,6 +179,7 @@ class Trial:
         if status < 0 or NO_VERDICT.search(said):
             return [], copies
         if "logic=" in said:
+            self.prover.seen(said)
             return self.judged(copies, said)
         left = self.without_invalid(copies, lines, errors_of(said))
         return (left, []) if len(left) < len(copies) else ([], copies)
@@ -212,17 +213,13 @@ class Trial:
             if not self.has_copy[it.version.function]:
                 print("%s: tried alone, as a copy isn't proved as it is" % it.version.place(), flush=True)
 
-    def groups_of(self, versions):
-        """So many that a run's time is little beside the proofs'."""
-        single = [v for v in versions if v.stands_alone() or not self.has_copy[v.function]]
-        return [[v] for v in single] + parts_of([v for v in versions if v not in single])
-
     def tried(self, group, tell):
-        if len(group) > 1:
-            self.together(group)
-        else:
-            self.alone(group[0])
+        self.together(group)
         tell(group)
+
+    def tried_alone(self, version, tell):
+        self.alone(version)
+        tell([version])
 
     def go(self, versions, tell):
         """Tries each that has no verdict yet, and tells of each group's."""
@@ -230,8 +227,13 @@ class Trial:
         left = [v for v in versions if v.verdict is None]
         new = dict.fromkeys(v.function for v in left if not v.stands_alone() and v.function not in self.has_copy)
         self.look_at_copies(list(new))
+        single = [v for v in left if v.stands_alone() or not self.has_copy[v.function]]
         with ThreadPoolExecutor(AT_ONCE) as pool:
-            list(pool.map(lambda group: self.tried(group, tell), self.groups_of(left)))
+            list(pool.map(lambda group: self.tried(group, tell), parts_of([v for v in left if v not in single])))
+        if single:
+            self.prover.see()
+        with ThreadPoolExecutor(AT_ONCE) as pool:
+            list(pool.map(lambda version: self.tried_alone(version, tell), single))
 
     def some(self, versions, others, number, tell):
         """Tries all of the first ones, and of the others as many as the number from the start on, not counting those that the compiler refuses."""
