@@ -8,10 +8,11 @@ crates are asked for, one is proved after the other, and what is proved is tried
 
 WRONG VERSIONS TOGETHER. Reading the crate takes most of a run, so many are judged in one: each stands behind the right function as one of its own, under
 another name, with the same contract and a copy of the proof (copies.py), and is judged by the errors there. Nothing calls it, so the proof of none waits for
-another's. First a copy of each function is tried as it is; where it isn't proved, the function's wrong versions are tried alone. What came of the copies is kept
-in tests/wrong-versions/copies.txt, with a sum of what they were made of (record.py): while a crate is as it was, they aren't tried again. Whatever has no error
-of its own in a run with others is tried again alone, in the right function's place, before it counts as proved. A change in specs/, in two files or outside of a
-body, and a method of a trait, are always tried alone.
+another's. What specs/X.antt states is proved in proofs/X.antt, so a wrong statement stands so too, as a file of its own beside a copy of that proof. First a copy
+of each function and statement is tried as it is; where it isn't proved, its wrong versions are tried alone. A statement's isn't where another proof is of the
+right one's own record, say. What came of the copies is kept in tests/wrong-versions/copies.txt, with a sum of what they were made of (record.py): while a crate
+is as it was, they aren't tried again. Whatever has no error of its own in a run with others is tried again alone, in the right one's place, before it counts as
+proved. A change of a definition that has no proof of that name, in two files or outside of a body, and a method of a trait, are always tried alone.
 
 NAMES. A proof cites goals and steps by names that the prover makes of the code, as `if-x-gt10` of `if x > 10`. Where a wrong version has another condition,
 and so another name, its proof files are read with the new name in the old one's place (names.py), and it is judged by what the prover then says.

@@ -63,7 +63,8 @@ def version_of(crate, what, pairs):
         return version
     changes = [change_of(file, before, after) for file, (before, after) in texts.items()]
     inside = [f for f in crate.functions if all(c.file == f.file and f.holds(c.start, c.end) for c in changes)]
-    return WrongVersion(crate.name, what, inside[0] if inside else None, changes, shown)
+    statement = crate.statements.get(changes[0].file) if len({c.file for c in changes}) == 1 else None
+    return WrongVersion(crate.name, what, inside[0] if inside else None, changes, shown, statement)
 
 
 def folder_of(repo):

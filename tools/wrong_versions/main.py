@@ -19,7 +19,7 @@ tools/wrong-versions --copies [CRATE..]
 --listed    every wrong version of tests/wrong-versions/CRATE.txt
 --sample    N single errors made up in the bodies of the functions of all library crates, chosen by the seed
 --all       all of them
---copies    a copy of each function as it is, and writes tests/wrong-versions/copies.txt: what else is tried has no need to look at these copies again
+--copies    a copy of each function and statement as it is, and writes tests/wrong-versions/copies.txt: what else is tried has no need to look at these again
 
 The last line is 'N passed, M failed'. What is refused by a fact passes, and so does a made-up error that tests/wrong-versions/equivalent.txt has as one that
 computes the same, if it is proved. Misfits among made-up errors are counted apart, and fail where more than a tenth are. A table by crate stands before the

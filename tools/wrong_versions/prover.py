@@ -7,6 +7,8 @@ import tempfile
 import threading
 from pathlib import Path
 
+from .version import changed
+
 # Of the processor, for one run: a busy machine makes no verdict another.
 SECONDS = 3600
 # Runs side by side, of any crates: each takes a processor, and 1 to 4 GB.
@@ -143,11 +145,10 @@ class Prover:
         for part in ("src", "specs", "proofs"):
             if (self.folder / part).is_dir():
                 shutil.copytree(self.folder / part, copy / part)
-        for change in sorted(changes, key=lambda c: -c.start):
-            path = copy / change.file
+        for file in {change.file for change in changes}:
+            path = copy / file
             path.parent.mkdir(parents=True, exist_ok=True)
-            text = path.read_text() if path.is_file() else ""
-            path.write_text(text[:change.start] + change.new + text[change.end:])
+            path.write_text(changed(path.read_text() if path.is_file() else "", [change for change in changes if change.file == file]))
         linked(self.kept, copy / "inc")
         return copy
 

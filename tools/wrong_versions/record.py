@@ -1,18 +1,18 @@
-"""tests/wrong-versions/copies.txt: the crates whose functions' copies were all tried as they are, a line each. A line has the crate, a sum of what its copies
-were made of, and the functions whose copy wasn't proved. While the sum holds, nothing is tried again; --copies writes the lines anew."""
+"""tests/wrong-versions/copies.txt: the crates whose functions' and statements' copies were all tried as they are, a line each. A line has the crate, a sum of
+what its copies were made of, and the functions and files whose copy wasn't proved. While the sum holds, nothing is tried again; --copies writes the lines anew."""
 import hashlib
 import re
 import subprocess
 from concurrent.futures import ThreadPoolExecutor
 from pathlib import Path
 
-from . import copies
+from . import copies, version
 from .listed import COPIES, folder_of
 from .prover import Prover, Proofs
 from .trial import Trial
-from .version import Crate, can_be_copied
+from .version import Crate
 
-HEAD = "# By tools/wrong-versions --copies: a crate, a sum of what its functions' copies were made of, and behind 'but' those that weren't proved as they are.\n"
+HEAD = "# By tools/wrong-versions --copies: a crate, a sum of what its copies were made of, and behind 'but' those that weren't proved as they are.\n"
 LINE = re.compile(r"^(?P<crate>\w+) (?P<sum>[0-9a-f]{64})(?: but (?P<alone>.+))?$")
 
 
@@ -23,7 +23,8 @@ def path_of(repo):
 def sum_of(crate):
     """What a copy rests on that isn't proved with the right function: the kit, how copies are made, and the crate's files."""
     made = hashlib.sha256(subprocess.run(["rt", "version"], capture_output=True, check=True).stdout)
-    made.update(Path(copies.__file__).read_bytes())
+    for part in copies, version:
+        made.update(Path(part.__file__).read_bytes())
     files = [path for part in ("src", "specs", "proofs") for path in (crate.folder / part).rglob("*") if path.is_file()]
     for path in sorted(files):
         made.update(("\n%s\n" % path.relative_to(crate.folder)).encode() + path.read_bytes())
@@ -35,30 +36,30 @@ def lines_of(repo):
     text = path_of(repo).read_text() if path_of(repo).is_file() else ""
     found = [LINE.match(line) for line in text.splitlines() if not line.startswith("#")]
     if None in found:
-        raise SystemExit("%s: a line isn't a crate, a sum and the functions tried alone" % COPIES)
+        raise SystemExit("%s: a line isn't a crate, a sum and what is tried alone" % COPIES)
     return {m["crate"]: m for m in found}
 
 
-def name_of(function):
-    return "%s %s" % (function.file, function.label)
+def name_of(it):
+    return ("%s %s" % (it.file, it.label)).strip()
 
 
 def known(repo, crate):
-    """Whether the copy of each function is proved as it is, where the crate's line says so of today's files; else nothing."""
+    """Whether the copy of each function and statement is proved as it is, where the crate's line says so of today's files; else nothing."""
     line = lines_of(repo).get(crate.name)
     if line is None or line["sum"] != sum_of(crate):
         return {}
     alone = line["alone"].split(", ") if line["alone"] else []
-    return {f: name_of(f) not in alone for f in crate.functions}
+    return {it: name_of(it) not in alone for it in crate.copied()}
 
 
 def tried(repo, proofs, name):
-    """A crate, and for each function that can be copied whether its copy is proved as it is."""
+    """A crate, and for each function and statement that can be copied whether its copy is proved as it is."""
     crate, prover = Crate(repo, name), Prover(repo, name, proofs)
     trial = Trial(prover, crate, {})
     try:
         prover.prepare()
-        trial.look_at_copies([f for f in crate.functions if can_be_copied(f)])
+        trial.look_at_copies(crate.copied())
     finally:
         prover.remove()
     proved = list(trial.has_copy.values())
@@ -72,7 +73,7 @@ def line_of(crate, has_copy):
 
 
 def look(repo, names):
-    """Tries the copies of some crates' functions as they are, and writes these crates' lines anew."""
+    """Tries the copies of some crates' functions and statements as they are, and writes these crates' lines anew."""
     proofs = Proofs(repo, names)
     with ThreadPoolExecutor(len(names)) as pool:
         new = {crate.name: line_of(crate, has_copy) for crate, has_copy in pool.map(lambda name: tried(repo, proofs, name), names)}

@@ -1,9 +1,8 @@
 """Wrong versions tried, many in one run, and their verdicts."""
 import re
 from concurrent.futures import ThreadPoolExecutor
-from pathlib import Path
 
-from .copies import Copy, placed
+from .copies import FunctionCopy, StatementCopy, is_proof_of, owns, placed
 from .names import ROUNDS, respelled
 from .prover import AT_ONCE
 from .version import Change, WrongVersion, one_line
@@ -41,21 +40,6 @@ def errors_of(said):
             found[-1][2] += "\n" + line
         goes_on = bool(m) or goes_on and line[:1] in (" ", "\t")
     return found
-
-
-def owns(name, function):
-    """Whether a method is one of the type with that name; the prover joins the trait's name to it, as in `RunEndFromOptionStop`."""
-    return name.startswith(function.owner) if function.of_trait else name == function.owner
-
-
-def is_proof_of(file, function, sign=""):
-    """Whether a file is in the folder of a function's proof. Of a function that calls itself the folder's name begins with the sign +, and of its copy not."""
-    parts = Path(file).parts
-    if len(parts) < 3 or parts[0] != "proofs" or parts[-2] != sign + function.name:
-        return False
-    if function.owner:
-        return any(owns(part, function) for part in parts[1:-2])
-    return parts[1:-2] == ((function.module,) if function.module else ())
 
 
 def said_of(said, function):
@@ -113,10 +97,20 @@ def parts_of(things):
     return [things[k:k + size] for k in range(0, len(things), size)]
 
 
+def own_errors(it, said):
+    """The errors in a copy's proof, or in the statement that it proves."""
+    return [e for e in errors_of(said) if it.owns(e[0])]
+
+
 class Trial:
     def __init__(self, prover, crate, has_copy):
-        """Beside prover and crate the functions whose copies were looked at, and whether the copy as it is was proved."""
+        """Beside prover and crate the functions and statements whose copies were looked at, and whether the copy as it is was proved."""
         self.prover, self.crate, self.has_copy = prover, crate, has_copy
+
+    def copy_of(self, version, number):
+        if version.copied() is version.statement:
+            return StatementCopy(version, number, self.crate.folder)
+        return FunctionCopy(version, number, self.proofs_of(version.function))
 
     def alone(self, version):
         """One in a run of its own. Where the proof only misses names, which the prover makes of the code, the names are brought to the code's."""
@@ -152,8 +146,7 @@ class Trial:
         """The copies without those that the compiler refuses."""
         left = []
         for it in copies:
-            first, last = lines[it]
-            own = [e for e in errors if e[0] == it.function.file and first <= e[1] <= last]
+            own = [e for e in errors if it in lines and e[0] == it.function.file and lines[it][0] <= e[1] <= lines[it][1]]
             if own:
                 it.version.note("invalid", one_line(own[0][2])[:200])
             else:
@@ -164,12 +157,11 @@ class Trial:
         """The copies without those that a fact refuses, by an error of their own: those whose proof has other names now, and the rest."""
         again, rest = [], []
         for it in copies:
-            errors = [e for e in errors_of(said) if is_proof_of(e[0], it.function)]
-            verdict = verdict_of(errors, without_proof(said, it.function))
+            verdict = verdict_of(own_errors(it, said), without_proof(said, it.function) if it.function else None)
             if verdict and verdict[0] != "misfit":
                 it.version.note(*verdict)
             else:
-                (again if verdict and it.is_renamed(said_of(said, it.function)) else rest).append(it)
+                (again if verdict and it.function and it.is_renamed(said_of(said, it.function)) else rest).append(it)
         return again, rest
 
     def one_run(self, copies):
@@ -186,20 +178,25 @@ class Trial:
 
     def together(self, group):
         """Several in each run. Those that no fact refuses there are tried alone."""
-        copies, single = [Copy(version, number, self.proofs_of(version.function)) for number, version in enumerate(group)], []
+        copies, single = [self.copy_of(version, number) for number, version in enumerate(group)], []
         while copies:
             copies, rest = self.one_run(copies)
             single += rest
         for it in single:
             self.alone(it.version)
 
-    def look_at_copies(self, functions):
-        """A copy that isn't proved as it is would be refused for being a copy, whatever is wrong in it: such a function's versions are tried alone."""
+    def look_at_copies(self, those):
+        """A copy that isn't proved as it is would be refused for being a copy, whatever is wrong in it: such a function's or statement's versions are tried
+        alone."""
         with ThreadPoolExecutor(AT_ONCE) as pool:
-            list(pool.map(self.look_at_some, parts_of(functions)))
+            list(pool.map(self.look_at_some, parts_of(those)))
 
-    def look_at_some(self, functions):
-        copies = [Copy(WrongVersion(self.crate.name, "as it is", f, [], ""), number, self.proofs_of(f)) for number, f in enumerate(functions)]
+    def as_it_is(self, it):
+        of_file = it.file in self.crate.statements
+        return WrongVersion(self.crate.name, "as it is", None if of_file else it, [], "", it if of_file else None)
+
+    def look_at_some(self, those):
+        copies = [self.copy_of(self.as_it_is(it), number) for number, it in enumerate(those)]
         left, said = copies, ""
         while left:
             changes, lines = placed(left)
@@ -209,8 +206,9 @@ class Trial:
                 break
             left = allowed
         for it in copies:
-            self.has_copy[it.version.function] = it in left and is_proved(said, it.function)
-            if not self.has_copy[it.version.function]:
+            is_well = is_proved(said, it.function) if it.function else not own_errors(it, said)
+            self.has_copy[it.version.copied()] = it in left and is_well
+            if not self.has_copy[it.version.copied()]:
                 print("%s: tried alone, as a copy isn't proved as it is" % it.version.place(), flush=True)
 
     def tried(self, group, tell):
@@ -225,9 +223,9 @@ class Trial:
         """Tries each that has no verdict yet, and tells of each group's."""
         tell([v for v in versions if v.verdict is not None])
         left = [v for v in versions if v.verdict is None]
-        new = dict.fromkeys(v.function for v in left if not v.stands_alone() and v.function not in self.has_copy)
+        new = dict.fromkeys(v.copied() for v in left if v.copied() and v.copied() not in self.has_copy)
         self.look_at_copies(list(new))
-        single = [v for v in left if v.stands_alone() or not self.has_copy[v.function]]
+        single = [v for v in left if not v.copied() or not self.has_copy[v.copied()]]
         with ThreadPoolExecutor(AT_ONCE) as pool:
             list(pool.map(lambda group: self.tried(group, tell), parts_of([v for v in left if v not in single])))
         if single:
