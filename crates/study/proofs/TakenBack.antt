@@ -109,16 +109,22 @@ next-kept rates cs m k =
     record { accepted = (own, k.accepted); few = omega tests })
     (λ u. k))
 
+-- Of any study, so that a check in another place is refused at once.
+all-pass : (s : Study) (c : Claim) (rates : List ℕ) → window_check s.window.first.0 s.window.last.0 ≡ 0 → claim_check c ≡ 0 → rate_check rates c.cell ≡ 0
+    → withdraw_room s ≡ true → can_withdraw s c rates ≡ true → withdraw_check s c rates ≡ 0
+unfolding withdraw_check
+all-pass s c rates window claim cell room covered =
+    then_next (window_check s.window.first.0 s.window.last.0) _ window ∙ then_next (claim_check c) _ claim ∙ then_next (rate_check rates c.cell) _ cell
+    ∙ then_next (check (withdraw_room s) refuse_full) _ (ap (λ (t : Bool). check t refuse_full) room)
+    ∙ ap (λ (t : Bool). check t refuse_withdrawal) covered
+
 module _ (w : Window) (rates : List ℕ) (sound : window_sound w.first.0 w.last.0 ≡ true) where
   withdraw-passes : (c : Claim) (cs : List Claim) → Kept rates (c ∷ cs) → withdraw_check (study_of w rates (c ∷ cs)) c rates ≡ 0
-  unfolding withdraw_check study_of
+  unfolding study_of
   withdraw-passes c cs k =
-      let s = study_of w rates (c ∷ cs) in
       let ok = k.accepted.0 in
-      then_next (window_check s.window.first.0 s.window.last.0) _ (window-passes w.first.0 w.last.0 sound)
-      ∙ then_next (claim_check c) _ (accepted-checks rates c ok) ∙ then_next (rate_check rates c.cell) _ (accepted-rates rates c ok)
-      ∙ then_next (check (withdraw_room s) refuse_full) _ (ap (λ (t : Bool). check t refuse_full) (front-room w rates (c ∷ cs) k.accepted k.few))
-      ∙ ap (λ (t : Bool). check t refuse_withdrawal) (front-covers w rates c cs k.accepted.1)
+      all-pass (study_of w rates (c ∷ cs)) c rates (window-passes w.first.0 w.last.0 sound) (accepted-checks rates c ok) (accepted-rates rates c ok)
+      (front-room w rates (c ∷ cs) k.accepted k.few) (front-covers w rates c cs k.accepted.1)
 
   withdrawn-front : (c : Claim) (cs : List Claim) → Kept rates (c ∷ cs)
       → withdrawn (study_of w rates (c ∷ cs)) c rates ≡ record { refused = 0; study = study_of w rates cs }
