@@ -1,4 +1,5 @@
 """Wrong versions tried, many in one run, and their verdicts."""
+import itertools
 import re
 from concurrent.futures import ThreadPoolExecutor
 
@@ -106,6 +107,8 @@ class Trial:
     def __init__(self, prover, crate, has_copy):
         """Beside prover and crate the functions and statements whose copies were looked at, and whether the copy as it is was proved."""
         self.prover, self.crate, self.has_copy = prover, crate, has_copy
+        # Made-up errors that stand in for those that the compiler refuses, and those of them that no run of copies can take.
+        self.spare, self.left_over = iter(()), []
 
     def copy_of(self, version, number):
         if version.copied() is version.statement:
@@ -176,14 +179,26 @@ class Trial:
         left = self.without_invalid(copies, lines, errors_of(said))
         return (left, []) if len(left) < len(copies) else ([], copies)
 
+    def stand_ins(self, refused):
+        """The next made-up errors, one for each that the compiler refuses, in whose run they are."""
+        drawn = list(itertools.islice(self.spare, sum(v.text is not None for v in refused)))
+        taken = [v for v in drawn if self.has_copy.get(v.copied())]
+        self.left_over += [v for v in drawn if v not in taken]
+        return taken
+
     def together(self, group):
-        """Several in each run. Those that no fact refuses there are tried alone."""
-        copies, single = [self.copy_of(version, number) for number, version in enumerate(group)], []
+        """Several in each run, and others in the place of those that the compiler refuses. Those that no fact refuses there are tried alone. Gives all that
+        were tried."""
+        those, single, copies = list(group), [], [self.copy_of(version, number) for number, version in enumerate(group)]
         while copies:
-            copies, rest = self.one_run(copies)
+            left, rest = self.one_run(copies)
             single += rest
+            more = self.stand_ins([it.version for it in copies if it.version.verdict == "invalid"])
+            copies = left + [self.copy_of(version, len(those) + number) for number, version in enumerate(more)]
+            those += more
         for it in single:
             self.alone(it.version)
+        return those
 
     def look_at_copies(self, those):
         """A copy that isn't proved as it is would be refused for being a copy, whatever is wrong in it: such a function's or statement's versions are tried
@@ -212,8 +227,7 @@ class Trial:
                 print("%s: tried alone, as a copy isn't proved as it is" % it.version.place(), flush=True)
 
     def tried(self, group, tell):
-        self.together(group)
-        tell(group)
+        tell(self.together(group))
 
     def tried_alone(self, version, tell):
         self.alone(version)
@@ -235,8 +249,9 @@ class Trial:
 
     def some(self, versions, others, number, tell):
         """Tries all of the first ones, and of the others as many as the number from the start on, not counting those that the compiler refuses."""
-        missing, at = number, 0
-        while versions or missing and at < len(others):
-            self.go(versions + others[at:at + missing], tell)
-            versions, at = [], at + missing
-            missing = number - sum(v.verdict != "invalid" for v in others[:at])
+        self.spare, those = iter(others[number:]), versions + others[:number]
+        while those:
+            self.go(those, tell)
+            missing = number - sum(v.verdict not in (None, "invalid") for v in others)
+            those = self.left_over + list(itertools.islice(self.spare, missing - len(self.left_over)))
+            self.left_over = []
