@@ -20,6 +20,14 @@ most_benefit = 200
 abbrev pub most_records : ℕ
 most_records = 60000
 
+-- rows of a claim file, one for each month of duration
+abbrev pub most_rows : ℕ
+most_rows = 2000
+
+-- open claims that the limit on reserves is judged on
+abbrev pub most_open_claims : ℕ
+most_open_claims = 2000
+
 -- bytes of a block of the claim file
 abbrev pub block_bytes : ℕ
 block_bytes = 512

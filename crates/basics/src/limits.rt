@@ -14,6 +14,12 @@ pub const MOST_BENEFIT: u8 = 200;
 // Records of a run with corrections.
 pub const MOST_RECORDS: usize = 60000;
 
+// Rows of a claim file, one for each month of duration.
+pub const MOST_ROWS: usize = 2000;
+
+// Open claims that the limit on reserves is judged on.
+pub const MOST_OPEN_CLAIMS: usize = 2000;
+
 // Bytes of a block of the claim file.
 pub const BLOCK_BYTES: usize = 512;
 

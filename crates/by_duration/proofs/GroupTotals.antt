@@ -3,6 +3,7 @@
 use Rattle.std.proofs.Common.{◌≡◌, ℕ, zero, suc, ◌+◌, ◌-◌, ◌*◌, ◌<◌, ◌≤◌, min, ltb, leb, List, [], ◌∷◌, get_or, ℤ, pos, ◌+ℤ◌, ◌*ℤ◌, sym, refl, ap, ◌∙◌, ap₂, lt-ltb, le-leb}
 use mathlib.Core.Path.{fun_ext}
 use lib.IntN.{+ℤ_idl, suc_ℤ-*ℤ, zero-*ℤ}
+use Rattle.basics.specs.Limits.{most_rows}
 use Rattle.basics.specs.Series.{sum_to}
 use Rattle.basics.proofs.Tests.{tests, by}
 use Rattle.basics.proofs.Tables.{table_at}
@@ -60,7 +61,7 @@ first_low : (g : ℕ) → 1 ≤ g → g ≤ 5 → 1 ≤ first_of g
 unfolding first_of last_of
 first_low = five (λ g. 1 ≤ first_of g) (omega tests) (omega tests) (omega tests) (omega tests) (omega tests)
 
-group-total : (kind : Kind) (n : ℕ) (w : Window) (table : List ℕ) (cs : List Claim) (g column : ℕ) → n ≤ 2000 → 1 ≤ g → g ≤ 5 → column < 8 → last_of (min g 4) < n
+group-total : (kind : Kind) (n : ℕ) (w : Window) (table : List ℕ) (cs : List Claim) (g column : ℕ) → n ≤ most_rows → 1 ≤ g → g ≤ 5 → column < 8 → last_of (min g 4) < n
     → rows_total (rows_over kind n w table cs) n g column
     ≡ sum_over ◌+ℤ◌ (pos 0) (λ c. figure (recovery_of kind table c.cell) (death_of kind table c.cell) g column (month_records c w.first.0 w.last.0)) cs
 unfolding rows_total group_rows row_sum claim_figure

@@ -3,6 +3,7 @@
 use Rattle.std.proofs.Common.{◌≡◌, ℕ, zero, suc, ◌+◌, ◌-◌, ◌<◌, ◌≤◌, min, Bool, true, false, ◌&&◌, eqb, ltb, leb, List, ℤ, ◌+ℤ◌, sym, refl, ◌∙◌, ap₂, le-ltb, lt-ltb, ne_eqb, le-leb}
 use mathlib.Core.Bool.{and-false}
 use borrow.Author.Tests.{lt-leb}
+use Rattle.basics.specs.Limits.{most_rows}
 use Rattle.basics.specs.Series.{sum_to}
 use Rattle.basics.proofs.Tests.{tests, by}
 use Rattle.claim_months.specs.declared.Claim.{Claim}
@@ -65,7 +66,7 @@ five P p1 p2 p3 p4 p5 (suc (suc (suc (suc zero)))) l h = p4
 five P p1 p2 p3 p4 p5 (suc (suc (suc (suc (suc zero))))) l h = p5
 five P p1 p2 p3 p4 p5 (suc (suc (suc (suc (suc (suc g)))))) l h = absurd (omega tests)
 
-module _ (n d : ℕ) (hn : n ≤ 2000) (hd : 1 ≤ d) where
+module _ (n d : ℕ) (hn : n ≤ most_rows) (hd : 1 ≤ d) where
   abbrev Told : ℕ → ℕ → ℕ → Type 0
   Told a m g = among a m (min d n) ≡ eqb (group_of d) g
 
@@ -104,7 +105,7 @@ module _ (n d : ℕ) (hn : n ≤ 2000) (hd : 1 ≤ d) where
   grouped = five (Grouped n d) first_group second_group third_group fourth_group last-group
 
 -- a claim's rows of a group's durations total its figure of the group
-pub rows-group : (recovery death : ℕ → ℤ) (n g column : ℕ) (c : Claim) (b e : ℕ) → n ≤ 2000 → 1 ≤ g → g ≤ 5 → last_of (min g 4) < n
+pub rows-group : (recovery death : ℕ → ℤ) (n g column : ℕ) (c : Claim) (b e : ℕ) → n ≤ most_rows → 1 ≤ g → g ≤ 5 → last_of (min g 4) < n
     → sum_to (λ j. row_figure recovery death n (first_of g + j) column (month_records c b e)) (group_rows n g) ≡ figure recovery death g column (month_records c b e)
 rows-group recovery death n g column c b e hn low high h =
     let rs = month_records c b e in

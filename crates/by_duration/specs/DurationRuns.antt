@@ -1,6 +1,6 @@
 -- The rows of a claim file: the run of the file, with its checks in their order, and the rows of the claims taken.
 use Rattle.std.specs.Prelude.{ℕ, ◌+◌, ◌-◌, ◌*◌, ◌/◌, Bool, ◌&&◌, List, [], ◌∷◌, ◌++◌, map, length, take, ℤ, pos, ◌==◌, nat_le}
-use Rattle.basics.specs.Limits.{no_form}
+use Rattle.basics.specs.Limits.{most_rows, no_form}
 use Rattle.basics.specs.Pick.{pick}
 use Rattle.claim_months.specs.declared.Claim.{Claim}
 use Rattle.rates.specs.declared.Kind.{Kind}
@@ -38,7 +38,7 @@ unfoldable pub rows_in : ℕ → ℕ
 rows_in len = (len - 4) / 8
 
 unfoldable pub has_rows : ℕ → Bool
-has_rows len = nat_le 1 (rows_in len) && nat_le (rows_in len) 2000 && len == 4 + 8 * rows_in len
+has_rows len = nat_le 1 (rows_in len) && nat_le (rows_in len) most_rows && len == 4 + 8 * rows_in len
 
 unfoldable pub durations_answered : Kind → List ℕ → List ℕ → List ℤ → ℕ
 durations_answered kind table bytes old = pick (has_rows (length old)) (run_for kind table bytes).refused no_form

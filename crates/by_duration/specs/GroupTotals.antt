@@ -1,5 +1,6 @@
 -- The rows of a group's durations total that group of the file's study.
 use Rattle.std.specs.Prelude.{◌≡◌, ℕ, ◌+◌, ◌-◌, ◌*◌, ◌<◌, ◌≤◌, min, List, ℤ, pos, ◌==◌, slice_index_or}
+use Rattle.basics.specs.Limits.{most_rows}
 use Rattle.basics.specs.Pick.{pick}
 use Rattle.basics.specs.Series.{sum_to}
 use Rattle.rates.specs.declared.Kind.{Kind}
@@ -27,5 +28,5 @@ rows_total rows n g column = sum_to (λ j. row_number rows (first_of g + j) colu
 -- comes before n, the last one where n is 121 or more. `proofs/GroupTotals.antt` proves it
 abbrev pub GroupTotals : Type 0
 GroupTotals =
-    (kind : Kind) (table bytes : List ℕ) (n g column : ℕ) → n ≤ 2000 → 1 ≤ g → g ≤ 5 → column < 8 → last_of (min g 4) < n
+    (kind : Kind) (table bytes : List ℕ) (n g column : ℕ) → n ≤ most_rows → 1 ≤ g → g ≤ 5 → column < 8 → last_of (min g 4) < n
     → rows_total (duration_rows kind n table bytes) n g column ≡ sum_at (run_for kind table bytes).study.sums g column

@@ -10,7 +10,7 @@ ghost use Rattle.by_duration.specs.design.Private.{Fit, raised_by, checked_sum};
 ghost use Rattle.by_duration.specs.DurationRuns.{run_for, taken_claims, head_numbers, has_rows, rows_in, durations_answered, durations_after};
 
 use crate::rows::add_rows;
-use basics::limits::{BLOCK_BYTES, NO_FORM};
+use basics::limits::{BLOCK_BYTES, MOST_ROWS, NO_FORM};
 use claim_file::record::read_record;
 use claim_file::run::feed_lent;
 use claim_file::{FileRun, LentRun, RunEnd};
@@ -83,7 +83,7 @@ fn row_count(len: usize) -> Option<u32>
     ensures { result ≡ pick (has_rows len) (Some (rows_in len)) None }
 {
     let n = len.saturating_sub(4) / 8;
-    if n < 1 || n > 2000 || len != 4 + 8 * n {
+    if n < 1 || n > MOST_ROWS || len != 4 + 8 * n {
         return None;
     }
     Some(n as u32)

@@ -2,6 +2,7 @@
 use Rattle.std.specs.Prelude.{ℕ, zero, suc, ◌+◌, ◌*◌, ◌/◌, ◌%◌, ◌≡◌, Bool, true, ◌&&◌, List, [], ◌∷◌, length, get_or, leb, ltb, eqb, Float}
 use Rattle.std.specs.Float.{binary64}
 use Rattle.std.specs.Float.Ieee.{add, lt, le}
+use Rattle.basics.specs.Limits.{most_open_claims}
 use Rattle.basics.specs.Pick.{pick}
 use Rattle.basics.specs.Checks.{check, ◌then◌, refuse_open_claims}
 use Rattle.valuation.specs.Reserve.{float, reserve_of, reserve_check}
@@ -22,7 +23,7 @@ claims_open_in list = length list / 3
 
 -- 17: a list of more than 2,000 claims, or with a part claim at its end
 unfoldable pub list_sound : List ℕ → Bool
-list_sound list = eqb (length list % 3) 0 && leb (claims_open_in list) 2000
+list_sound list = eqb (length list % 3) 0 && leb (claims_open_in list) most_open_claims
 
 -- the checks of one claim: those of the factor call, and after them 17 for a duration of 24 or less
 unfoldable pub open_claim_check : List ℕ → List ℕ → Float → ℕ → ℕ

@@ -8,6 +8,7 @@ ghost use Rattle.valuation.specs.design.Private.{handed_on, totals_of};
 use crate::reserve_factor::{CheckedMonths, reserve_factor};
 use crate::{Limit, Reserve};
 use basics::Duration;
+use basics::limits::MOST_OPEN_CLAIMS;
 use basics::refusal::Refusal;
 use rates::Cell;
 
@@ -117,7 +118,7 @@ pub fn reserve_limit(
 ) -> Result<Limit, Refusal>
     ensures { limit_by_number result ≡ limit_of rates.now list.now t count v }
 {
-    if list.len() % 3 != 0 || list.len() / 3 > 2000 {
+    if list.len() % 3 != 0 || list.len() / 3 > MOST_OPEN_CLAIMS {
         return Err(Refusal::OpenClaims);
     }
     let other = replaced_t(t, count);

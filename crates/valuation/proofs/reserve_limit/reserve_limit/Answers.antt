@@ -6,13 +6,14 @@ use mathlib.Core.List.{List}
 use borrow.Author.Tests.{le-leb, lt-leb, eq-eqb, ne_eqb}
 use native.Mathlib.Omega.{arith}
 use lib.ListN.{length}
+use Rattle.basics.specs.Limits.{most_open_claims}
 use Rattle.valuation.specs.LimitAnswers.{limit_by_number}
 use Rattle.valuation.specs.ReserveLimit.{claims_open_in, list_sound}
 use Rattle.valuation.specs.design.Private.{totals_of}
 use Rattle.valuation.proofs.AnswerTests.{passed_on}
 use Rattle.valuation.proofs.LimitAnswers.{list-refused, claims-refused, judged-replaced, judged-given}
 use Rattle.valuation.proofs.reserve_limit.reserve_limit.Goals as goal
-use Rattle.valuation.proofs.reserve_limit.reserve_limit.Goals.{then-list-ne0-via-then-list-ne0, then-list-ne0-via-else-list-ne0+then-list-gt2000}
+use Rattle.valuation.proofs.reserve_limit.reserve_limit.Goals.{then-list-ne0-via-then-list-ne0, then-list-ne0-via-else-list-ne0+then-list-gt-MOST_OPEN_CLAIMS}
 
 pub returns-then-list-ne0 : goal.returns-then-list-ne0
 unfolding list_sound
@@ -21,13 +22,13 @@ returns-then-list-ne0 c =
     let unsound : list_sound l ≡ false
     = elim c.then-list-ne0.branch [
       | then-list-ne0-via-then-list-ne0 w ↦ simp (ne_eqb (length l % 3) 0 w.if-list-ne0.true)
-      | then-list-ne0-via-else-list-ne0+then-list-gt2000 w ↦ simp (lt-leb (length l / 3) 2000 (omega arith), and-false)
+      | then-list-ne0-via-else-list-ne0+then-list-gt-MOST_OPEN_CLAIMS w ↦ simp (lt-leb (length l / 3) most_open_claims (omega arith), and-false)
     ] in
     list-refused _ l _ _ _ unsound
 
-is-sound : (l : List ℕ) → length l % 3 ≡ 0 → length l / 3 ≤ 2000 → list_sound l ≡ true
+is-sound : (l : List ℕ) → length l % 3 ≡ 0 → length l / 3 ≤ most_open_claims → list_sound l ≡ true
 unfolding list_sound
-is-sound l e h = simp (eq-eqb (length l % 3) 0 e, le-leb (length l / 3) 2000 h)
+is-sound l e h = simp (eq-eqb (length l % 3) 0 e, le-leb (length l / 3) most_open_claims h)
 
 pub returns-in_err-totals : goal.returns-in_err-totals
 returns-in_err-totals c =
