@@ -82,10 +82,10 @@ fn put_answer(answer: Answer, study: &mut [i64]) -> u8
     ensures value { result ≡ number_in answer.refused }
     ensures study_after { study.new ≡ pick (eqb (number_in answer.refused) 0) (sets study.old 0 (study_numbers answer.study)) study.old }
 {
-    if answer.refused.is_none() {
-        put_study(answer.study, 0, study);
+    match answer.refused {
+        Some(refusal) => u8::from(refusal),
+        None => put_study(answer.study, 0, study),
     }
-    number_in(answer.refused)
 }
 
 // Changes a study by the claim of a record.
