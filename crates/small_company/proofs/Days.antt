@@ -28,7 +28,7 @@ day-unknown d e =
     (λ q f. let z : ◌≡◌ {A = ℕ} 0 1 = cc in absurd (omega tests)) (λ q f. refl) e
 
 module _ (d : Date) (h : is_date d ≡ true) where
-  pub has-day : day_of d ≡ Some (record { 0 = day_number d })
+  has-day : day_of d ≡ Some (record { 0 = day_number d })
   unfolding day_of
   has-day = rw h refl
 
