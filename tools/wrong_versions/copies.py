@@ -23,7 +23,7 @@ def item_start(f):
     return start
 
 
-def owns(name, function):
+def is_type_of(name, function):
     """Whether a method is one of the type with that name; the prover joins the trait's name to it, as in `RunEndFromOptionStop`."""
     return name.startswith(function.owner) if function.of_trait else name == function.owner
 
@@ -34,7 +34,7 @@ def is_proof_of(file, function, sign=""):
     if len(parts) < 3 or parts[0] != "proofs" or parts[-2] != sign + function.name:
         return False
     if function.owner:
-        return any(owns(part, function) for part in parts[1:-2])
+        return any(is_type_of(part, function) for part in parts[1:-2])
     return parts[1:-2] == ((function.module,) if function.module else ())
 
 

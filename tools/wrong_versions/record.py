@@ -50,7 +50,7 @@ def known(repo, crate):
     if line is None or line["sum"] != sum_of(crate):
         return {}
     alone = line["alone"].split(", ") if line["alone"] else []
-    return {it: name_of(it) not in alone for it in crate.copied()}
+    return {it: name_of(it) not in alone for it in crate.copyable()}
 
 
 def tried(repo, proofs, name):
@@ -59,7 +59,7 @@ def tried(repo, proofs, name):
     trial = Trial(prover, crate, {})
     try:
         prover.prepare()
-        trial.look_at_copies(crate.copied())
+        trial.look_at_copies(crate.copyable())
     finally:
         prover.remove()
     proved = list(trial.has_copy.values())

@@ -3,7 +3,7 @@ import itertools
 import re
 from concurrent.futures import ThreadPoolExecutor
 
-from .copies import FunctionCopy, StatementCopy, is_proof_of, owns, placed
+from .copies import FunctionCopy, StatementCopy, is_proof_of, is_type_of, placed
 from .names import ROUNDS, respelled
 from .prover import AT_ONCE
 from .version import Change, WrongVersion, one_line
@@ -61,7 +61,7 @@ def said_of(said, function):
 def is_path_of(parts, function):
     """Whether the prover names a function so."""
     if function.owner:
-        return len(parts) > 1 and parts[-1] == function.name and owns(parts[-2], function)
+        return len(parts) > 1 and parts[-1] == function.name and is_type_of(parts[-2], function)
     return parts[1:] == [part for part in (function.module, function.name) if part]
 
 
@@ -111,7 +111,7 @@ class Trial:
         self.spare, self.left_over = iter(()), []
 
     def copy_of(self, version, number):
-        if version.copied() is version.statement:
+        if version.right() is version.statement:
             return StatementCopy(version, number, self.crate.folder)
         return FunctionCopy(version, number, self.proofs_of(version.function))
 
@@ -182,7 +182,7 @@ class Trial:
     def stand_ins(self, refused):
         """The next made-up errors, one for each that the compiler refuses, in whose run they are."""
         drawn = list(itertools.islice(self.spare, sum(v.text is not None for v in refused)))
-        taken = [v for v in drawn if self.has_copy.get(v.copied())]
+        taken = [v for v in drawn if self.has_copy.get(v.right())]
         self.left_over += [v for v in drawn if v not in taken]
         return taken
 
@@ -222,8 +222,8 @@ class Trial:
             left = allowed
         for it in copies:
             is_well = is_proved(said, it.function) if it.function else not own_errors(it, said)
-            self.has_copy[it.version.copied()] = it in left and is_well
-            if not self.has_copy[it.version.copied()]:
+            self.has_copy[it.version.right()] = it in left and is_well
+            if not self.has_copy[it.version.right()]:
                 print("%s: tried alone, as a copy isn't proved as it is" % it.version.place(), flush=True)
 
     def tried(self, group, tell):
@@ -237,9 +237,9 @@ class Trial:
         """Tries each that has no verdict yet, and tells of each group's."""
         tell([v for v in versions if v.verdict is not None])
         left = [v for v in versions if v.verdict is None]
-        new = dict.fromkeys(v.copied() for v in left if v.copied() and v.copied() not in self.has_copy)
+        new = dict.fromkeys(v.right() for v in left if v.right() and v.right() not in self.has_copy)
         self.look_at_copies(list(new))
-        single = [v for v in left if not v.copied() or not self.has_copy[v.copied()]]
+        single = [v for v in left if not v.right() or not self.has_copy[v.right()]]
         with ThreadPoolExecutor(AT_ONCE) as pool:
             list(pool.map(lambda group: self.tried(group, tell), parts_of([v for v in left if v not in single])))
         if single:

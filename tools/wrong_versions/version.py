@@ -52,8 +52,8 @@ class WrongVersion:
         where = self.changes[0].file if self.changes else (self.function or self.statement).file if self.function or self.statement else "?"
         return "%s/%s%s" % (self.crate, where, " " + self.function.label if self.function else "")
 
-    def copied(self):
-        """What a copy of can hold it: the function, the statement, or None."""
+    def right(self):
+        """The right one, a copy of which can hold it: the function, the statement, or None."""
         return self.function if self.function and can_be_copied(self.function) else self.statement
 
     def note(self, verdict, why):
@@ -79,8 +79,8 @@ class Crate:
         files = [str(path.relative_to(self.folder)) for path in sorted((self.folder / "specs").rglob("*.antt"))]
         self.statements = {file: it for file in files for it in [Statement(name, file)] if it.is_proved_in(self.folder)}
 
-    def copied(self):
-        """What can stand beside itself, as a copy."""
+    def copyable(self):
+        """The functions and statements that can stand beside themselves, as a copy."""
         return [f for f in self.functions if can_be_copied(f)] + [*self.statements.values()]
 
     def read(self, path):
