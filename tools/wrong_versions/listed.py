@@ -86,6 +86,11 @@ def listed(repo, crate):
     return [version_of(crate, what, pairs) for what, pairs in entries_in(folder_of(repo) / (crate.name + ".txt"))]
 
 
+def edits(crate):
+    """Those of a crate's must-fail/, which have the form of an entry."""
+    return [version_of(crate, path.stem, pairs) for path in sorted((crate.folder / "must-fail").glob("*.edit")) for _, pairs in entries_in(path)]
+
+
 def computes_the_same(repo):
     """The reason by the text of each made-up error in equivalent.txt."""
     path, reasons = folder_of(repo) / EQUIVALENT, {}

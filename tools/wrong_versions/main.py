@@ -7,7 +7,7 @@ from concurrent.futures import ThreadPoolExecutor
 from pathlib import Path
 
 from . import __doc__ as how, record
-from .listed import EQUIVALENT, computes_the_same, listed, listed_crates
+from .listed import EQUIVALENT, computes_the_same, edits, listed, listed_crates
 from .made_up import in_order, made_up
 from .prover import Prover, Proofs, crate_lines
 from .trial import Trial
@@ -16,7 +16,7 @@ from .version import Crate
 USAGE = """tools/wrong-versions [--listed] [--sample N [--seed S] | --all] [CRATE..]
 tools/wrong-versions --copies [CRATE..]
 
---listed    every wrong version of tests/wrong-versions/CRATE.txt
+--listed    every wrong version of tests/wrong-versions/CRATE.txt; what has a contract, or states something, and has none fails
 --sample    N single errors made up in the bodies of the functions of all library crates, chosen by the seed
 --all       all of them
 --copies    a copy of each function and statement as it is, and writes tests/wrong-versions/copies.txt: what else is tried has no need to look at these again
@@ -39,6 +39,13 @@ class Work:
 
     def size(self):
         return len(self.listed) + self.number
+
+    def bare(self):
+        """The functions with a contract and the statements of which no wrong version is listed, an edit, or made up, as they are told of."""
+        changes = [change for v in [*self.listed, *self.made, *edits(self.crate)] for change in v.changes]
+        functions = [f for f in self.crate.functions if f.has_contract and not any(c.file == f.file and f.holds(c.start, c.end) for c in changes)]
+        files = {change.file for change in changes}
+        return ["%s/%s %s" % (self.crate.name, f.file, f.label) for f in functions] + ["%s/%s" % (self.crate.name, file) for file in self.crate.statements if file not in files]
 
     def row(self):
         counts = collections.Counter(v.verdict for v in self.tried())
@@ -101,7 +108,7 @@ def works_of(given):
         crate = Crate(given.repo, name)
         library = (crate.folder / "src/lib.rt").is_file()
         versions = listed(given.repo, crate) if given.listed and name in with_lists else []
-        works.append(Work(crate, versions, in_order(made_up(crate), given.seed) if library and (given.sample or given.all) else []))
+        works.append(Work(crate, versions, in_order(made_up(crate), given.seed) if library else []))
     union = in_order([v for work in works for v in work.made], given.seed)
     chosen = collections.Counter(v.crate for v in (union if given.all else union[:given.sample or 0]))
     for work in works:
@@ -115,7 +122,7 @@ def stale(given, works, reasons):
     return [text for text in reasons if text not in made and (not given.crates or text[0] in given.crates)] if given.sample or given.all else []
 
 
-def counted(works, gone):
+def counted(works, gone, bare):
     """Prints the tables and the last line; whether all is well."""
     made = [v for work in works for v in work.tried() if v.verdict != "invalid"]
     misfits = sum(v.verdict == "misfit" for v in made)
@@ -125,9 +132,11 @@ def counted(works, gone):
         print("%d made-up errors judged, %d misfits" % (len(made), misfits) + (": FAILED, above a tenth" if misfits > MOST_MISFITS * len(made) else ""))
     for text in gone:
         print("%s: FAILED, no such error is made up: %s %s %s: %s  =>  %s" % (EQUIVALENT, *text))
+    for place in bare:
+        print("%s: FAILED, no wrong version of it" % place)
     judged = [v for work in works for v in work.listed] + [v for v in made if v.verdict != "misfit"]
     passed = sum(passes(v) for v in judged)
-    failed = len(judged) - passed + len(gone) + (misfits if misfits > MOST_MISFITS * len(made) else 0)
+    failed = len(judged) - passed + len(gone) + len(bare) + (misfits if misfits > MOST_MISFITS * len(made) else 0)
     print("%d passed, %d failed" % (passed, failed))
     return failed == 0 and passed > 0
 
@@ -150,10 +159,10 @@ def main():
         record.look(given.repo, crates_of(given))
         return 0
     works, reasons = works_of(given), computes_the_same(given.repo)
-    gone = stale(given, works, reasons)
+    gone, bare = stale(given, works, reasons), [place for work in works for place in work.bare()] if given.listed else []
     works = sorted((work for work in works if work.size()), key=lambda work: -work.size())
     proofs, tell = Proofs(given.repo, [work.crate.name for work in works]), teller(reasons)
     # All at once: how many runs go side by side is the prover's.
     with ThreadPoolExecutor(len(works) or 1) as pool:
         list(pool.map(lambda work: go(given.repo, proofs, work, tell), works))
-    return 0 if counted(works, gone) else 1
+    return 0 if counted(works, gone, bare) else 1

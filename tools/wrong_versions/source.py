@@ -67,6 +67,7 @@ class Function:
         self.first = body_from(tokens, closed + 1)
         # A contract can say what it does: it is lent something to write, or answers more than whether its writing failed.
         behind = [t.text for t in tokens[closed + 1:self.first]]
+        self.has_contract = "ensures" in behind
         lent = any(a.text == "&" and b.text == "mut" for a, b in zip(tokens[opened:closed], tokens[opened + 1:]))
         self.can_decide = lent or behind[:1] == ["->"] and behind[1:] != WRITES
         self.last = closing(tokens, self.first) if tokens[self.first].text == "{" else self.first
@@ -112,6 +113,16 @@ def name_before(tokens, i):
     return tokens[i].text
 
 
+def owner_of(tokens, i, opened):
+    """The type that an impl is for, as the prover names it: one of the impl's own parameters stands for any type, as in `impl<R: Read> Source for R`."""
+    name, parameters, k, deep = name_before(tokens, opened), [], i + 1, 0
+    while tokens[k].text in ("<", ">") or deep:
+        deep += (tokens[k].text == "<") - (tokens[k].text == ">")
+        parameters += [tokens[k].text] if deep == 1 and tokens[k - 1].text in ("<", ",") else []
+        k += 1
+    return "Any" if name in parameters else name
+
+
 def functions_of(file, text):
     tokens = tokens_of(text)
     found, owner, of_trait, owner_end, i = [], "", False, -1, 0
@@ -120,7 +131,7 @@ def functions_of(file, text):
         if tokens[i].kind == "name" and tokens[i].text in ("impl", "trait"):
             opened = next_of(tokens, i, "{")
             of_trait = tokens[i].text == "trait" or any(t.text == "for" for t in tokens[i:opened])
-            owner = name_before(tokens, opened) if tokens[i].text == "impl" else ""
+            owner = owner_of(tokens, i, opened) if tokens[i].text == "impl" else ""
             owner_end, i = closing(tokens, opened), opened + 1
         elif tokens[i].text == "extern" and tokens[i + 2].text == "{":
             i = closing(tokens, i + 2) + 1
