@@ -1,11 +1,11 @@
 -- The sum over some months of a span at once: all have 30 thirtieths but the span's first and last.
 -- Assumes nothing.
-use Prim.Native.Nat.{ℕ, zero, suc, ◌+◌, ◌-◌, ◌≤◌, ◌<◌}
+use Prim.Native.Nat.{ℕ, zero, suc, ◌+◌, ◌-◌, ◌*◌, ◌≤◌, ◌<◌}
 use mathlib.Core.Path.{◌≡◌, refl, sym, ap, ap₂, ◌∙◌, subst}
 use lib.IntN.{ℤ, pos, neg_ℤ, sub_ℕ, ◌+ℤ◌, ◌-ℤ◌, ◌*ℤ◌, +ℤ_idl, +ℤ_idr, +ℤ_assoc, *ℤ_comm, zero-*ℤ}
 use lib.Dec.{eqb}
 use borrow.Author.Tests.{ne_eqb}
-use native.Mathlib.Nat.{add-zero, mul-zero}
+use native.Mathlib.Nat.{add-zero, mul-one, mul-zero}
 use native.Mathlib.Numerals.{add-one}
 use Rattle.basics.specs.Pick.{pick}
 use Rattle.basics.specs.Series.{sum_to}
@@ -48,6 +48,11 @@ pub ones_over : (m : ℕ) → sum_to (λ j. pos 1) m ≡ pos m
 unfolding sum_to
 ones_over zero = refl
 ones_over (suc m) = ap (λ (z : ℤ). z +ℤ pos 1) (ones_over m) ∙ ap pos (add-one m)
+
+-- a band in which each month counts 1
+pub band-ones : (d m b s : ℕ) → band_sum (λ j. pos 1) d m b s ≡ pos (30 * m) -ℤ pos b -ℤ pos s
+unfolding band_sum
+band-ones d m b s = rw (ones_over m, mul-one b, mul-one s) refl
 
 -- U of a span's months is at most 30
 pub span-u-high : (sp : Span) → SpanBounds sp → (j : ℕ) → span_u sp j ≤ 30

@@ -100,10 +100,7 @@ fn put_groups(rt: &impl Print) -> io::Result<()> {
 fn put_lasts(rt: &impl Print) -> io::Result<()> {
     put(rt, b"lasts")?;
     for duration in [0, 1, 3, 4, 24, 25, 60, 61, 120, 121, u32::MAX, u32::MAX] {
-        put_next(
-            rt,
-            rates::last_of(rates::group(Duration(duration))).0 as u64,
-        )?;
+        put_next(rt, rates::group_last(Duration(duration)).0 as u64)?;
     }
     put(rt, b"\n")
 }

@@ -16,7 +16,7 @@ use Rattle.basics.specs.Checks.{check}
 use Rattle.basics.specs.Series.{sum_to}
 use Rattle.basics.proofs.Checks.{check-passed, then-passed}
 use Rattle.basics.proofs.Tests.{tests, by, and_left, and_right}
-use Rattle.rates.specs.Rates.{place, recovery_rate, death_rate, table_sound, rates_sound_to, rates_sound, cells, rate_check, group_of, last_of}
+use Rattle.rates.specs.Rates.{place, recovery_rate, death_rate, table_sound, rates_sound_to, rates_sound, cells, rate_check, group_of, last_of, group_last}
 use Rattle.rates.specs.design.Prepared.{rates_over}
 
 -- recovery and death rate of a cell together
@@ -69,10 +69,6 @@ module _ (rates : List ℕ) (cell d : ℕ) (passed : rate_check rates cell ≡ 0
 
   pub death-bound : death_rate rates cell d ≤ 1000000
   death-bound = omega (arith, rates-bound)
-
--- the last duration of a duration's group (`last-of-group`), by the same cuts as `group_of`
-unfoldable pub group_last : ℕ → ℕ
-group_last d = pick (leb d 3) 3 (pick (leb d 24) 24 (pick (leb d 60) 60 (pick (leb d 120) 120 4294967295)))
 
 -- the five groups of a duration with their last durations, each with the durations it has
 module _ (d : ℕ) (P : ℕ → ℕ → Type 0) where

@@ -48,6 +48,10 @@ rate_check rates cell =
 unfoldable pub group_of : ℕ → ℕ
 group_of d = pick (leb d 3) 1 (pick (leb d 24) 2 (pick (leb d 60) 3 (pick (leb d 120) 4 5)))
 
+-- the last duration of a duration's group; a group without a last has 2³² − 1
+unfoldable pub group_last : ℕ → ℕ
+group_last d = pick (leb d 3) 3 (pick (leb d 24) 24 (pick (leb d 60) 60 (pick (leb d 120) 120 4294967295)))
+
 -- the last duration of a group; one without a last has 2³² − 1
 unfoldable pub last_of : ℕ → ℕ
 last_of g = pick (eqb g 1) 3 (pick (eqb g 2) 24 (pick (eqb g 3) 60 (pick (eqb g 4) 120 4294967295)))

@@ -4,7 +4,7 @@
 ghost use Rattle.std.specs.Prelude.{◌≡◌, ◌+◌, ◌-◌, ◌*◌, ◌≤◌, leb, length, get_or};
 ghost use Rattle.basics.specs.Limits.{cell_numbers};
 ghost use Rattle.basics.specs.Refused.{number_refused};
-ghost use Rattle.rates.specs.Rates.{place, length_sound, rate_check, rates_sound, recovery_rate, death_rate, group_of, last_of};
+ghost use Rattle.rates.specs.Rates.{place, length_sound, rate_check, rates_sound, recovery_rate, death_rate, group_of, last_of, group_last};
 ghost use Rattle.rates.specs.design.Private.{one_above};
 
 pub mod prepared;
@@ -136,4 +136,11 @@ pub fn last_of(group: u8) -> Duration
         4 => Duration(120),
         _ => Duration(4294967295),
     }
+}
+
+// The last duration of a duration's group; a group without a last has 2^32 - 1.
+pub fn group_last(duration: Duration) -> Duration
+    ensures { result.0 ≡ group_last duration.0 }
+{
+    last_of(group(duration))
 }

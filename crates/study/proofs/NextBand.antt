@@ -9,9 +9,9 @@ use lib.IntN.{ℤ, pos, nat_abs}
 use Rattle.claim_months.specs.declared.Span.{Span}
 use Rattle.claim_months.specs.Span.{span_u, span_b, SpanBounds}
 use Rattle.rates.specs.declared.Kind.{Kind}
-use Rattle.rates.specs.Rates.{group_of, last_of}
+use Rattle.rates.specs.Rates.{group_of, group_last, last_of}
 use Rattle.rates.specs.design.Prepared.{part_recovery, part_death}
-use Rattle.rates.proofs.Laws.{group_last, by-group, last-of-group, last-from, group-same}
+use Rattle.rates.proofs.Laws.{by-group, last-of-group, last-from, group-same}
 use Rattle.study.specs.declared.amounts.Amounts.{Amounts}
 use Rattle.study.specs.design.LentAdding.{guarded_plus}
 use Rattle.study.specs.design.Private.{months_figure, share_by}

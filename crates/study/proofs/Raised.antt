@@ -17,8 +17,8 @@ use Rattle.basics.proofs.Tables.{table_at, table-length, table_same, list-table}
 use Rattle.claim_months.specs.declared.Span.{Span}
 use Rattle.claim_months.specs.Span.{span_u, span_b, span_weighted, span_closing, band_sum, span_band, SpanBounds}
 use Rattle.claim_months.proofs.SpanIsBand.{band-same, band-none, band-adds}
-use Rattle.rates.specs.Rates.{group_of}
-use Rattle.rates.proofs.Laws.{group_last, group-same, group-next, last-from}
+use Rattle.rates.specs.Rates.{group_of, group_last}
+use Rattle.rates.proofs.Laws.{group-same, group-next, last-from}
 use Rattle.study.specs.Sums.{group_at, column_at, is_count, times_at}
 use Rattle.study.specs.Study.{group_weight}
 use Rattle.study.specs.design.LentAdding.{guarded_sum, guarded_plus}
