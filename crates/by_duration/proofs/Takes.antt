@@ -114,7 +114,7 @@ module _ (kind : Kind) (table : List ℕ) where
     pub base-fresh : r.due ≡ 0 → r.study ≡ fresh r.study.window → base ≡ fresh base.window
     pub all : after.refused ≡ 0 → count ≡ claim_count block
     pub later : after.refused ≡ 0 → 1 ≤ after.due
-    pub whole : 0 < count → length block ≡ 512
+    pub whole : 0 < count → (length block ≡ 512) × (claim_count block ≤ 15)
     pub records : (k : ℕ) → k < count → Some (block_claim block k) ≡ record_in block (16 + 32 * k)
 
   -- none is taken where the run is refused
@@ -168,7 +168,7 @@ module _ (kind : Kind) (table : List ℕ) where
         base-fresh = λ z f. f;
         all = λ z. i.all z ∙ l;
         later = λ z. claims-later r block (claim_count block) 0 s d;
-        whole = λ z. so.length-so;
+        whole = λ z. (so.length-so, so.count_so);
         records = λ k z. sound-record r.due block d q k (omega (tests, i.within, l));
       })
       (λ q. none-took r block (stops r s 11 0) refl (stops-refused r s 11 0 (λ (z : ◌≡◌ {A = ℕ} 11 0). absurd (omega tests)))))
@@ -294,7 +294,7 @@ module _ (kind : Kind) (table : List ℕ) where
       let rest = length-drop 512 b in
       by (ltb (length b) 512) (λ _. take (t.count + i.count) (file_claims b) ≡ take t.count here ++ take i.count later)
       (λ q.
-      let none : t.count ≡ 0 = none-of-part (take 512 b) t.count t.whole (omega tests) in
+      let none : t.count ≡ 0 = none-of-part (take 512 b) t.count (λ z. (t.whole z).0) (omega tests) in
       ap (take (t.count + i.count)) (no_block b (omega tests)) ∙ take-nil (t.count + i.count)
       ∙ sym
       (ap₂ (λ (xs ys : List Claim). xs ++ ys) (ap (λ (m : ℕ). take m here) none)
@@ -368,6 +368,7 @@ module _ (kind : Kind) (table : List ℕ) where
     pub within : count ≤ claim_count (take 512 b)
     pub split : taken_from r b ≡ take count (in_block (take 512 b)) ++ taken_from (fed r add (take 512 b)) (drop 512 b)
     pub window : (fed r add b).study.window ≡ (fed r add (take 512 b)).study.window
+    pub whole : 0 < count → (length (take 512 b) ≡ 512) × ((claim_count (take 512 b) ≤ 15) × (count ≤ claim_count (take 512 b)))
     pub records : (k : ℕ) → k < count → Some (block_claim (take 512 b) k) ≡ record_in (take 512 b) (16 + 32 * k)
     pub begins : Begins (fed r add (take 512 b))
     pub adds : r.due ≡ 0 → r.study ≡ fresh r.study.window → Adds (fresh (fed r add b).study.window) (taken_from r b) (fed r add b).study
@@ -417,6 +418,7 @@ module _ (kind : Kind) (table : List ℕ) where
           within = block.within;
           split = rw (one, two) (joined r b l block rest);
           window = ap (λ (x : FileRun). x.study.window) e ∙ adds-window first.study (fed first add (drop 512 b)).study (take rest.count (file_claims (drop 512 b))) rest.adds;
+          whole = λ z. ((block.whole z).0, ((block.whole z).1, block.within));
           records = block.records;
           begins = λ u z. absurd (omega (tests, block.later u));
           adds = λ d f.
