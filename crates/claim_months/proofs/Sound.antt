@@ -118,7 +118,11 @@ sound c e =
     (check-passed (sequence_sound c) 4 (omega tests) p4.0) (check-passed (benefit_sound c) 16 (omega tests) p16.0)
     (check-passed (ep_sound c) 5 (omega tests) p16.1)
 
--- a claim that passes its checks weighs at most 200
+-- a claim weighs at least 1, and one that passes its checks at most 200
+pub weight-low : (c : Claim) → 1 ≤ weight c
+unfolding weight
+weight-low c = by (eqb c.benefit 0) (λ t. 1 ≤ pick t 1 c.benefit) (λ q. omega tests) (λ q. omega tests)
+
 pub weight-high : (c : Claim) → claim_check c ≡ 0 → weight c ≤ 200
 unfolding weight
 weight-high c h =

@@ -54,10 +54,14 @@ pub band-ones : (d m b s : ℕ) → band_sum (λ j. pos 1) d m b s ≡ pos (30 *
 unfolding band_sum
 band-ones d m b s = rw (ones_over m, mul-one b, mul-one s) refl
 
--- U of a span's months is at most 30
+-- U and B of a span's months are at most 30
 pub span-u-high : (sp : Span) → SpanBounds sp → (j : ℕ) → span_u sp j ≤ 30
 unfolding span_u
 span-u-high sp bounds j = by (eqb (j + 1) sp.months) (λ t. pick t sp.through.0 30 ≤ 30) (λ q. bounds.through_high) (λ q. omega tests)
+
+pub span-b-high : (sp : Span) → SpanBounds sp → (j : ℕ) → span_b sp j ≤ 30
+unfolding span_b
+span-b-high sp bounds j = by (eqb j 0) (λ t. pick t sp.before.0 0 ≤ 30) (λ q. bounds.before_high) (λ q. omega tests)
 
 module _ (w : ℕ → ℤ) (sp : Span) (bounds : SpanBounds sp) where
   abbrev weight_at : ℕ → ℤ

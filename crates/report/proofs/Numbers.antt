@@ -2,16 +2,17 @@
 -- Assumes nothing.
 use Prim.Native.Nat.{ℕ, zero, suc, ◌-◌, ◌/◌, ◌^◌, ◌≤◌, ◌<◌}
 use mathlib.Core.Path.{◌≡◌, refl, ap, ◌∙◌}
-use mathlib.Core.List.{List}
+use mathlib.Core.List.{List, [], ◌∷◌}
 use native.Mathlib.Omega.{arith}
 use native.Mathlib.Numerals.{unary_clauses}
 use native.Mathlib.Nat.{pow-succ', one-le-pow}
 use lib.ListN.{length, length-append}
 use lib.Dec.{ltb}
+use lib.IntN.{negsuc}
 use Rattle.report.specs.Digits.{last_digits, IsDigitCount}
 use Rattle.basics.specs.Pick.{pick}
 use Rattle.basics.proofs.Tests.{tests, by, is-pick}
-use Rattle.report.specs.Text.{places_up_to, places, number_text}
+use Rattle.report.specs.Text.{places_up_to, places, number_text, signed_text}
 
 digits-length : (b k n : ℕ) → length (last_digits b k n) ≡ k
 digits-length b zero n = refl
@@ -90,3 +91,9 @@ short-length n h = text-length 9 n (omega (arith, h))
 -- the size of a sum
 pub size-length : (n : ℕ) → n ≤ 9223372036854775808 → length (number_text n) ≤ 19
 size-length n h = text-length 18 n (omega (arith, h))
+
+-- 0, 1027931, the largest number of 64 bits, and −30
+number-examples : (number_text 0 ≡ 48 ∷ []) × (number_text 1027931 ≡ 49 ∷ 48 ∷ 50 ∷ 55 ∷ 57 ∷ 51 ∷ 49 ∷ []) × (places 18446744073709551615 ≡ 20)
+    × (signed_text (negsuc 29) ≡ 45 ∷ 51 ∷ 48 ∷ [])
+unfolding number_text signed_text places places_up_to
+number-examples = (refl, refl, refl, refl)
