@@ -43,12 +43,23 @@ pub(crate) fn positive_part(expected: i64) -> u64
     expected.max(0) as u64
 }
 
-// The largest q with q² × unit ≤ bound: none asked for passes 2,060,000, which is r where C = 1 and A = 4.
-fn root(unit: u64, bound: u64) -> u64
-    requires { (unit ≤ most_claims) × (bound < 2060000 * 2060000 * unit) }
-    ensures { (result < 2060000) × (result * result * unit ≤ bound) × (bound < (result + 1) * (result + 1) * unit) }
+// The largest q with q² × unit ≤ bound, by halving: low is such a q, high is none, as the number above all that it can be.
+fn root(unit: u64, bound: u64, above: u64) -> u64
+    requires { (unit ≤ most_claims) × (1 ≤ above) × (above ≤ 1000000) × (bound < above * above * unit) }
+    ensures { (result < above) × (result * result * unit ≤ bound) × (bound < (result + 1) * (result + 1) * unit) }
 {
-    (bound / unit).isqrt()
+    let mut low = 0;
+    let mut high = above;
+    // Kept: std's `isqrt` halves 2^32 down, 32 steps, where these are 20 at most.
+    while low + 1 < high {
+        let middle = low + (high - low) / 2;
+        if middle * middle * unit <= bound {
+            low = middle;
+        } else {
+            high = middle;
+        }
+    }
+    low
 }
 
 // z of a group above 1.
@@ -59,10 +70,10 @@ pub(crate) fn credibility_of(group: u8, expected: u64) -> u64
     if unit * 1000000 <= expected {
         return 1000000;
     }
-    root(unit, 1000000 * expected)
+    root(unit, 1000000 * expected, 1000000)
 }
 
-// m of a group above 1. The smallest r that reaches is one above the largest that doesn't.
+// m of a group above 1. The smallest r that reaches is one above the largest that doesn't; where that is 120,000 or more, m has its ceiling.
 pub(crate) fn margin_of(group: u8, terminations: u64) -> u64
     requires { terminations ≤ most_claims }
     ensures { result ≡ margin group terminations }
@@ -70,8 +81,11 @@ pub(crate) fn margin_of(group: u8, terminations: u64) -> u64
     if terminations == 0 {
         return 150000;
     }
-    let r = root(terminations, 530450000000 * twice_a_of(group) - 1) + 1;
-    (30000 + r).min(150000)
+    let bound = 530450000000 * twice_a_of(group) - 1;
+    if 14400000000 * terminations <= bound {
+        return 150000;
+    }
+    30000 + (root(terminations, bound, 120000) + 1)
 }
 
 // T of a group above 1.
