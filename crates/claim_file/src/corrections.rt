@@ -4,6 +4,7 @@ ghost use Rattle.std.specs.Prelude.{◌≡◌, true, ◌/◌, ◌≤◌, length}
 ghost use Rattle.basics.specs.Limits.{block_bytes, most_records};
 ghost use Rattle.basics.specs.Refused.{number_of};
 ghost use Rattle.study.specs.design.PreparedAdding.{lent_study};
+ghost use Rattle.study.specs.design.LentAdding.{room_for};
 ghost use Rattle.claim_file.specs.Corrections.{file_records, sound_blocks, sound_all, last_ones, records_added, corrected_run_with, corrected_run};
 ghost use Rattle.claim_file.specs.design.PreparedRuns.{adding_with};
 ghost use Rattle.claim_file.specs.Runs.{corrected_by_number};
@@ -73,6 +74,13 @@ fn with_sums(study: Study, taken: u32, sums: [i64; 80]) -> Study
     }
 }
 
+// Whether the sums have room for all claims of a block that has some. Of an empty one nobody asks, and it isn't looked at.
+fn has_spare(count: u8, sums: &[i64; 80]) -> bool
+    ensures { result ≡ true → room_for 15 sums.now ≡ true }
+{
+    count > 0 && has_room_for_block(sums)
+}
+
 // The records that are not marked, added to a study up to the first refusal. The sums are looked at once for all records of a block where these can't
 // take one past its bound, as in a file run.
 fn add_kept(kind: Kind, table: &[u32], file: &[u8], marks: &Marks, study: Study) -> CorrectedRun
@@ -91,8 +99,8 @@ fn add_kept(kind: Kind, table: &[u32], file: &[u8], marks: &Marks, study: Study)
     while (block as usize) < file.len() / BLOCK_BYTES {
         let at = BLOCK_BYTES * block as usize;
         let bytes = &file[at..at + BLOCK_BYTES];
-        let spare = has_room_for_block(&sums);
         let count = bytes[2];
+        let spare = has_spare(count, &sums);
         for place in 0..count {
             let index = next;
             next += 1;

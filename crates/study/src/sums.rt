@@ -85,7 +85,7 @@ pub(crate) fn is_within(x: i64, bound: u64) -> bool
 fn is_up_to(x: i64, bound: u64) -> bool
     ensures { result ≡ (leb (nat_abs x) bound && non_neg x) }
 {
-    is_within(x, bound) && x >= 0
+    x >= 0 && x.cast_unsigned() <= bound
 }
 
 // Whether a group's closing counts lie from 0 to bound.
@@ -113,10 +113,12 @@ fn group_within(sums: &[i64; 80], at: usize, times: u64, bounds: Bounds) -> bool
 
 // Whether all sums are within bounds, those of the weighted set within 200 times these.
 // Kept: the group's number says its bounds; `as_chunks::<8>` needs it counted beside each chunk.
+#[inline(always)]
 fn all_within(sums: &[i64; 80], bounds: Bounds) -> bool
     ensures { result ≡ all_in_bounds (bound_in bounds) sums.now }
 {
-    (0..10).all(|group| group_within(sums, 8 * group, times_in(group), bounds))
+    (0..5).all(|group| group_within(sums, 8 * group, 1, bounds))
+        && (5..10).all(|group| group_within(sums, 8 * group, MOST_BENEFIT as u64, bounds))
 }
 
 // Whether a study's sums are within the bounds of refusal 9.

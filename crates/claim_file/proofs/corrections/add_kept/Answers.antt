@@ -140,7 +140,7 @@ module _ (c : After-add_to) where
   kept-so : (number ≡ 0 → ⊥) → after ≡ c.loop-place.sums
   kept-so h = lent-kept _ reached c.claim_at-claim.result _ _ looked-so _ after value-so sums-so h
 
-  spare-so : count < 15 → c.has_room_for_block-spare.result ≡ true → room_for (15 - (count + 1)) after ≡ true
+  spare-so : count < 15 → c.has_spare-spare.result ≡ true → room_for (15 - (count + 1)) after ≡ true
   spare-so few h =
       let left : 15 - count ≡ suc (15 - (count + 1)) = omega (arith, few) in
       let table-small : all_at_most 4294967295 c.args.table.now ≡ true = at-most-list 4294967295 c.args.table.now (λ k _. omega (arith, c.type_inv.table k)) in
@@ -168,7 +168,7 @@ loop-place-init c =
       omega arith,
       omega arith,
       omega arith,
-      (λ h. rw none (sym c.has_room_for_block-spare.ensures ∙ h)),
+      (λ h. rw none (c.has_spare-spare.ensures h)),
       left-rest _ _ _ _ _ _ _ _ (cut-begun c.args.file.now c.loop-block.block (omega arith)) c.loop-block.invariant.1,
     )
 

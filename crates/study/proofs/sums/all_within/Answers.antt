@@ -1,6 +1,6 @@
 -- `study::sums::all_within` meets its contract: a sum is in bounds where its group is.
 -- Assumes nothing.
-use Rattle.std.proofs.Common.{◌≡◌, ℕ, ◌+◌, ◌*◌, ◌/◌, ◌%◌, ◌<◌, Bool, true, false, List, ℤ, sym, refl, ap, ◌∙◌, arith, rules}
+use Rattle.std.proofs.Common.{◌≡◌, ℕ, ◌+◌, ◌*◌, ◌/◌, ◌%◌, ◌<◌, Bool, true, false, ◌&&◌, List, get_or, ℤ, sym, refl, ap, ◌∙◌, arith, rules}
 use Rattle.std.specs.List.{range_with_len}
 use Rattle.std.proofs.lemmas.Iterator.{YieldsList-from_range}
 use Rattle.std.proofs.lemmas.Iterator.Search.{all_from_yields_List}
@@ -53,11 +53,45 @@ module _ (b : Bounds) (s : List ℤ) where
       by (every_place 10 group_passes) (λ t. every_place 10 group_passes ≡ t → t ≡ false)
       (λ _ v. sym (all-is (bound_in b) s (each-place v)) ∙ u) (λ _ v. refl) refl) refl
 
-pub returns : goal.returns
+-- five tests behind a test, one after the other
+behind : (a p q r s t : Bool) → (a && (((((true && p) && q) && r) && s) && t)) ≡ (((((a && p) && q) && r) && s) && t)
+behind true p q r s t = refl
+behind false p q r s t = refl
+
+module _ (b : Bounds) (s : List ℤ) where
+  -- a group of the first set, and one of the weighted set
+  abbrev first_passes : ℕ → Bool
+  first_passes g = group_in_bounds 1 b s (8 * g)
+
+  abbrev weighted_passes : ℕ → Bool
+  weighted_passes g = group_in_bounds most_benefit b s (8 * g)
+
+  both-sets : (every_place 5 first_passes && every_place 5 (λ k. weighted_passes (get_or (range_with_len 5 5) k 0))) ≡ all_in_bounds (bound_in b) s
+  unfolding every_place times_at
+  both-sets =
+      behind (every_place 5 first_passes) (weighted_passes 5) (weighted_passes 6) (weighted_passes 7) (weighted_passes 8) (weighted_passes 9) ∙ grouped b s
+
+pub returns-then-all : goal.returns-then-all
 unfolding every_place
-returns c =
+returns-then-all c =
     let a = c.args in
-    let passes = group_passes a.bounds a.sums.now in
-    all_from_yields_List passes _ _ _ c.all.ensures.ran (YieldsList-from_range 0 10 10 refl refl) (λ x b q k. search (rules, tests))
-    ∙ all-placed passes (range_with_len 0 10) 0 10 (omega arith)
-    ∙ grouped a.bounds a.sums.now
+    let b = a.bounds in
+    let s = a.sums.now in
+    let one : c.all.result ≡ every_place 5 (first_passes b s) =
+    all_from_yields_List (first_passes b s) _ _ _ c.all.ensures.ran (YieldsList-from_range 0 5 5 refl refl) (λ x k q n. search (rules, tests))
+    ∙ all-placed (first_passes b s) (range_with_len 0 5) 0 5 (omega arith) in
+    let two : c.all-then-all.result ≡ every_place 5 (λ k. weighted_passes b s (get_or (range_with_len 5 5) k 0)) =
+    all_from_yields_List (weighted_passes b s) _ _ _ c.all-then-all.ensures.ran (YieldsList-from_range 5 10 5 refl refl) (λ x k q n. search (rules, tests))
+    ∙ all-placed (weighted_passes b s) (range_with_len 5 5) 0 5 (omega arith) in
+    two ∙ ap (λ (t : Bool). t && every_place 5 (λ k. weighted_passes b s (get_or (range_with_len 5 5) k 0))) (sym c.if-all.true ∙ one) ∙ both-sets b s
+
+pub returns-else-all : goal.returns-else-all
+unfolding every_place
+returns-else-all c =
+    let a = c.args in
+    let b = a.bounds in
+    let s = a.sums.now in
+    let one : c.all.result ≡ every_place 5 (first_passes b s) =
+    all_from_yields_List (first_passes b s) _ _ _ c.all.ensures.ran (YieldsList-from_range 0 5 5 refl refl) (λ x k q n. search (rules, tests))
+    ∙ all-placed (first_passes b s) (range_with_len 0 5) 0 5 (omega arith) in
+    c.if-all.false ∙ ap (λ (t : Bool). t && every_place 5 (λ k. weighted_passes b s (get_or (range_with_len 5 5) k 0))) (sym c.if-all.false ∙ one) ∙ both-sets b s
