@@ -1,7 +1,7 @@
 -- What a join tests and what it answers: the sums of both together within bounds, and the study of a join that passes its checks.
 -- Assumes nothing.
-use Prim.Native.Nat.{ℕ, ◌+◌, ◌≤◌, ◌<◌}
-use mathlib.Core.Path.{◌≡◌, refl, sym}
+use Prim.Native.Nat.{ℕ, ◌+◌, ◌*◌, ◌/◌, ◌%◌, ◌≤◌, ◌<◌}
+use mathlib.Core.Path.{◌≡◌, refl, sym, ap, ◌∙◌}
 use mathlib.Core.Bool.{Bool, true, false, ◌&&◌}
 use mathlib.Core.List.{List}
 use lib.Dec.{leb}
@@ -17,13 +17,14 @@ use Rattle.basics.specs.Checks.{check, ◌then◌, refuse_other_window, refuse_f
 use Rattle.basics.specs.Refused.{number_of}
 use Rattle.basics.specs.declared.refusal.Refusal.{Refusal}
 use Rattle.basics.proofs.Refused.{numbered-from-1}
-use Rattle.basics.proofs.Tests.{tests, and_left, and_right}
+use Rattle.basics.proofs.Tests.{tests, by, and_left, and_right}
 use Rattle.basics.proofs.Checks.{then-passed, check-passed}
-use Rattle.basics.proofs.Tables.{every-same}
+use Rattle.basics.proofs.Tables.{every-same, every-at, every-is}
 use Rattle.basics.proofs.Signed.{Small, result_fits, result-is}
 use Rattle.study.specs.declared.Study.{Study}
 use Rattle.study.specs.Answers.{Answer}
 use Rattle.study.specs.Sums.{column_at, is_count, plus, column_bound, in_bounds, all_in_bounds, within}
+use Rattle.study.specs.design.Private.{group_together}
 use Rattle.study.specs.Joining.{study_window_check, same_window, join_room, join_check, together, joined}
 use Rattle.study.proofs.Algebra.{at, each_at}
 use Rattle.study.proofs.InBounds.{place_bound, in_count, all-at, within-high}
@@ -37,6 +38,24 @@ and_picked s false u h = sym (and-true s)
 -- the test of two sums at a place: their sum is within its bound
 abbrev pub sum_in_bound : List ℤ → List ℤ → ℕ → Bool
 sum_in_bound a b k = leb (nat_abs (at a k +ℤ at b k)) (place_bound column_bound k)
+
+-- the tests of ten groups are those of the 80 places
+pub groups-together : (a b : List ℤ) → every_place 10 (λ g. group_together a b (8 * g)) ≡ every_place 80 (sum_in_bound a b)
+unfolding group_together
+groups-together a b =
+    let test = sum_in_bound a b in
+    let group : ℕ → Bool = λ g. every_place 8 (λ x. test (8 * g + x)) in
+    let down : every_place 80 test ≡ true → every_place 10 group ≡ true =
+    λ u. every-is 10 group (λ g h. every-is 8 (λ x. test (8 * g + x)) (λ x l. every-at 80 test u (8 * g + x) (omega tests))) in
+    let up : every_place 10 group ≡ true → every_place 80 test ≡ true =
+    λ u.
+    every-is 80 test
+    (λ k h.
+    let p : k ≡ 8 * (k / 8) + k % 8 = omega tests in
+    ap test p ∙ every-at 8 (λ x. test (8 * (k / 8) + x)) (every-at 10 group u (k / 8) (omega tests)) (k % 8) (omega tests)) in
+    by (every_place 80 test) (λ t. every_place 80 test ≡ t → every_place 10 group ≡ t) (λ q u. down u)
+    (λ q u.
+    by (every_place 10 group) (λ t. every_place 10 group ≡ t → t ≡ false) (λ _ v. sym (up v) ∙ u) (λ _ v. refl) refl) refl
 
 -- the sums of two sets of claims are within the bounds together where each sum passes, if each of the two sets is: then no count is below 0
 pub sums-within : (a b : List ℤ) → within a ≡ true → within b ≡ true → every_place 80 (sum_in_bound a b) ≡ within (plus a b)

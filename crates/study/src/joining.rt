@@ -1,10 +1,11 @@
 // Joining two studies of one window (document 02, No. 3).
-ghost use Rattle.std.specs.Prelude.{◌≡◌, true, ◌*◌, ◌≤◌, leb, nat_abs, ◌+ℤ◌};
+ghost use Rattle.std.specs.Prelude.{◌≡◌, true, ◌+◌, ◌*◌, ◌≤◌, leb, nat_abs, ◌+ℤ◌};
 ghost use Rattle.basics.specs.Limits.{most_benefit, most_expected};
 ghost use Rattle.basics.specs.Refused.{number_refused};
 ghost use Rattle.study.specs.Answers.{by_number};
 ghost use Rattle.study.specs.Sums.{plus, within};
 ghost use Rattle.study.specs.Joining.{join_room, join_check, joined};
+ghost use Rattle.study.specs.design.Private.{group_together};
 
 use crate::pairs::each;
 use crate::sums::{bound_at, has_room, is_within};
@@ -24,14 +25,22 @@ fn sum_within(a: i64, b: i64, bound: u64) -> bool
     }
 }
 
-// Whether two lists of sums within the bounds of refusal 9 are there together.
+// Whether the sums of a group of two lists, from a place on, are within their bounds together.
 // Kept: the bound is asked for by the place; a `zip` with it numbered has a place beside a pair.
+fn group_together(a: &[i64; 80], b: &[i64; 80], at: usize) -> bool
+    requires { at + 8 ≤ 80 }
+    ensures { result ≡ group_together a.now b.now at }
+{
+    (at..at + 8).all(|place| sum_within(a[place], b[place], bound_at(place)))
+}
+
+// Whether two lists of sums within the bounds of refusal 9 are there together. Group by group, so that the columns' bounds are constants.
 fn together_within(a: &[i64; 80], b: &[i64; 80]) -> bool
     requires a_value { within a.now ≡ true }
     requires b_value { within b.now ≡ true }
     ensures { result ≡ within (plus a.now b.now) }
 {
-    (0..80).all(|place| sum_within(a[place], b[place], bound_at(place)))
+    (0..10).all(|group| group_together(a, b, 8 * group))
 }
 
 // Check 9 of a join: the counts of claims are compared without adding, since 32 bits may not hold both.

@@ -1,5 +1,5 @@
 -- What the private functions of this layer answer: sums within bounds, and a span's share, band by band.
-use Rattle.std.specs.Prelude.{ℕ, ◌+◌, ◌-◌, ◌*◌, ◌/◌, ◌≤◌, Bool, true, ◌&&◌, List, get_or, leb, ltb, eqb, ℤ, pos, nat_abs, ◌*ℤ◌}
+use Rattle.std.specs.Prelude.{ℕ, ◌+◌, ◌-◌, ◌*◌, ◌/◌, ◌≤◌, Bool, true, ◌&&◌, List, get_or, leb, ltb, eqb, ℤ, pos, nat_abs, ◌+ℤ◌, ◌*ℤ◌}
 use Rattle.std.specs.Int.{w64, cast_unsigned}
 use Rattle.std.specs.Int.Bits.{bit_or}
 use Rattle.basics.specs.Pick.{pick}
@@ -15,7 +15,7 @@ use Rattle.claim_months.specs.Span.{span_weighted, span_closing}
 use Rattle.rates.specs.declared.Kind.{Kind}
 use Rattle.rates.specs.design.Prepared.{table_check_of, recovery_of, death_of}
 use Rattle.study.specs.declared.bounds.Bounds.{Bounds}
-use Rattle.study.specs.Sums.{group_at, column_at, is_count, times_at, in_bounds, within}
+use Rattle.study.specs.Sums.{group_at, column_at, is_count, times_at, column_bound, in_bounds, within}
 use Rattle.study.specs.Study.{count_in_group, group_weight}
 use Rattle.study.specs.design.LentAdding.{guarded_plus}
 use Rattle.study.specs.Withdrawing.{covers}
@@ -31,6 +31,11 @@ group_in_bounds n b s at = every_place 8 (λ x. in_bounds (n * bound_in b x) x (
 -- its closing counts among them
 unfoldable pub counts_in_bounds : ℕ → List ℤ → ℕ → Bool
 counts_in_bounds n s at = every_place 8 (λ x. pick (is_count x) (in_bounds n x (get_or s (at + x) (pos 0))) true)
+
+-- the sums of two lists at the eight places of a group, from a place on, each within its bound of refusal 9
+unfoldable pub group_together : List ℤ → List ℤ → ℕ → Bool
+group_together a b at =
+    every_place 8 (λ x. leb (nat_abs (get_or a (at + x) (pos 0) +ℤ get_or b (at + x) (pos 0))) (times_at most_benefit (at + x) * column_bound (column_at (at + x))))
 
 -- what a month's thirtieths are multiplied by in a column: by one, by its recovery rate, by its death rate
 unfoldable pub column_rate : (ℕ → ℤ) → (ℕ → ℤ) → ℕ → ℕ → ℤ
