@@ -4,7 +4,6 @@ ghost use Rattle.std.specs.Prelude.{◌≡◌, true, ◌/◌, ◌≤◌, length}
 ghost use Rattle.basics.specs.Limits.{block_bytes, most_records};
 ghost use Rattle.basics.specs.Refused.{number_of};
 ghost use Rattle.study.specs.design.PreparedAdding.{lent_study};
-ghost use Rattle.study.specs.design.LentAdding.{room_for};
 ghost use Rattle.claim_file.specs.Corrections.{file_records, sound_blocks, sound_all, last_ones, records_added, corrected_run_with, corrected_run};
 ghost use Rattle.claim_file.specs.design.PreparedRuns.{adding_with};
 ghost use Rattle.claim_file.specs.Runs.{corrected_by_number};
@@ -12,6 +11,7 @@ ghost use Rattle.claim_file.specs.design.Marks.{numbers_of, MarksStruck, unsound
 
 use crate::blocks::{claim_at, is_sound};
 use crate::bytes::date_at;
+use crate::run::has_spare;
 use crate::struck::{Marks, is_marked, mark_struck, record_count};
 use crate::{CorrectedRun, FileRun, Stop};
 use basics::limits::{BLOCK_BYTES, MOST_RECORDS};
@@ -21,7 +21,7 @@ use rates::Kind;
 use rates::prepared::rate_table;
 use study::Study;
 use study::adding::add_to;
-use study::sums::{has_room_for_block, has_still_room};
+use study::sums::has_still_room;
 
 // How many of a file's whole blocks are sound, up to the first that isn't.
 #[tactic(auto, using(crate::proofs::CorrectedRuns::sound_steps), unfolding(crate::specs::Bytes::byte_at))]
@@ -72,13 +72,6 @@ fn with_sums(study: Study, taken: u32, sums: [i64; 80]) -> Study
         sums,
         ..study
     }
-}
-
-// Whether the sums have room for all claims of a block that has some. Of an empty one nobody asks, and it isn't looked at.
-fn has_spare(count: u8, sums: &[i64; 80]) -> bool
-    ensures { result ≡ true → room_for 15 sums.now ≡ true }
-{
-    count > 0 && has_room_for_block(sums)
 }
 
 // The records that are not marked, added to a study up to the first refusal. The sums are looked at once for all records of a block where these can't

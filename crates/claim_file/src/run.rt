@@ -1,7 +1,8 @@
 // The file run: blocks 0, 1, 2, .. in order, up to the first refusal.
-ghost use Rattle.std.specs.Prelude.{◌≡◌, List, ◌+◌, ◌-◌, ◌≤◌, ◌<◌, ℤ, IsNone};
+ghost use Rattle.std.specs.Prelude.{◌≡◌, ◌&&◌, List, ◌+◌, ◌-◌, ◌≤◌, ◌<◌, ltb, ℤ, IsNone};
 ghost use Rattle.basics.specs.Limits.{block_bytes};
 ghost use Rattle.study.specs.Sums.{none};
+ghost use Rattle.study.specs.design.LentAdding.{room_for};
 ghost use Rattle.claim_file.specs.Run.{adding, started, fed, ended, file_run_with, file_run};
 ghost use Rattle.claim_file.specs.design.PreparedRuns.{adding_with};
 ghost use Rattle.claim_file.specs.design.LentRuns.{with_sums};
@@ -132,6 +133,14 @@ fn begin(run: LentRun, bytes: &[u8], sums: &mut [i64; 80]) -> LentRun
     }
 }
 
+// Whether the sums have room for all claims of a block that has some. Of an empty one nobody asks, and it isn't looked at.
+#[inline(always)]
+pub(crate) fn has_spare(count: u8, sums: &[i64; 80]) -> bool
+    ensures { result ≡ (ltb 0 count && room_for 15 sums.now) }
+{
+    count > 0 && has_room_for_block(sums)
+}
+
 // The run with the blocks of some bytes taken, a part block at the end with them, up to the first refusal, with a table of either kind. The sums are
 // looked at once for all claims of a block where these can't take one past its bound.
 #[inline(always)]
@@ -160,8 +169,8 @@ fn feed_kind(
         }
         let window = run.window;
         let mut taken = run.taken;
-        let spare = has_room_for_block(sums);
         let count = part[2];
+        let spare = has_spare(count, sums);
         for place in 0..count {
             let claim = claim_at(part, place);
             let room = has_still_room(spare, sums);

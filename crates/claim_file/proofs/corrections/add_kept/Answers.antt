@@ -10,6 +10,7 @@ use lib.IntN.{ℤ}
 use lib.ListN.{length, take, drop, get_or}
 use Rattle.basics.specs.Refused.{number_of, number_refused}
 use Rattle.basics.specs.Tables.{all_at_most}
+use Rattle.basics.proofs.Tests.{and_right}
 use Rattle.basics.proofs.Refused.{numbered-from-1}
 use Rattle.basics.proofs.Tables.{at-most-list}
 use Rattle.study.specs.declared.Study.{Study}
@@ -168,7 +169,7 @@ loop-place-init c =
       omega arith,
       omega arith,
       omega arith,
-      (λ h. rw none (c.has_spare-spare.ensures h)),
+      (λ h. rw none (and_right _ _ (sym c.has_spare-spare.ensures ∙ h))),
       left-rest _ _ _ _ _ _ _ _ (cut-begun c.args.file.now c.loop-block.block (omega arith)) c.loop-block.invariant.1,
     )
 

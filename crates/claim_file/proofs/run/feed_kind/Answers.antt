@@ -13,6 +13,7 @@ use Rattle.std.proofs.Common.{get_or-take, get_or-drop}
 use Rattle.std.specs.Prelude.{is_some}
 use Rattle.basics.specs.Refused.{number_of, number_refused}
 use Rattle.basics.specs.Tables.{all_at_most}
+use Rattle.basics.proofs.Tests.{and_right}
 use Rattle.basics.proofs.Refused.{numbered-from-1}
 use Rattle.basics.proofs.Tables.{at-most-list}
 use Rattle.study.specs.declared.Study.{Study}
@@ -117,7 +118,7 @@ module _ (c : After-add_to) where
   kept-so : (number ≡ 0 → ⊥) → after ≡ c.loop-place.sums
   kept-so h = lent-kept _ so_far c.claim_at-claim.result _ _ looked-so _ after value-so sums-so h
 
-  spare-so : c.loop-place.place < 15 → c.has_room_for_block-spare.result ≡ true → room_for (15 - (c.loop-place.place + 1)) after ≡ true
+  spare-so : c.loop-place.place < 15 → c.has_spare-spare.result ≡ true → room_for (15 - (c.loop-place.place + 1)) after ≡ true
   spare-so low h =
       let left : 15 - c.loop-place.place ≡ suc (15 - (c.loop-place.place + 1)) = omega (arith, low) in
       let table-small : all_at_most 4294967295 c.args.table.now ≡ true = at-most-list 4294967295 c.args.table.now (λ k _. omega (arith, c.type_inv.table k)) in
@@ -160,7 +161,7 @@ pub bounds-part-2 : goal.bounds-part-2
 bounds-part-2 c = let s = (sound-so (goal.at.bounds-part-2 c).Else-is_some-2).length-so in omega arith
 
 pub loop-place-init : goal.loop-place-init
-loop-place-init c = (refl, omega arith, (λ h. sym c.has_room_for_block-spare.ensures ∙ h), claims-start _ _ _ _ _)
+loop-place-init c = (refl, omega arith, (λ h. and_right _ _ (sym c.has_spare-spare.ensures ∙ h)), claims-start _ _ _ _ _)
 
 pub claim_at-claim-requires : goal.claim_at-claim-requires
 claim_at-claim-requires c =
