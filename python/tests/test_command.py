@@ -1,5 +1,6 @@
 """./ltd as a user runs it: help, exit status, what it says, progress, and the README's commands."""
 
+import fcntl
 import os
 import pty
 import re
@@ -8,8 +9,12 @@ import shutil
 import signal
 import subprocess
 import sys
+import termios
 import time
+from array import array
+from contextlib import contextmanager
 from pathlib import Path
+from typing import Iterator
 
 from ltd_study.desk.command import parser
 
@@ -17,6 +22,23 @@ from .support import LTD, PORTFOLIO, ROOT, DeskTest, commands
 
 COMMANDS = ("rates", *commands())
 WINDOW_WORDS = ("--window", "2010-03-01", "2014-12-31")
+ENDED = ((signal.SIGTERM, 143), (signal.SIGINT, 130), (signal.SIGHUP, 129))
+
+HEARD_ASIDE = """
+import os, runpy, signal, sys, threading
+
+def hear(path):
+    number = int(os.read(0, 9))
+    signal.pthread_kill(threading.get_ident(), number)
+    with open(path, "wb", buffering=0) as more:
+        more.write(b"\\n")
+
+threading.Thread(target=hear, args=sys.argv[3:4], daemon=True).start()
+del sys.argv[0]
+runpy.run_path(sys.argv[0], run_name="__main__")
+"""
+"""Runs ./ltd. The signal whose number is read is taken by another thread, and behind it comes more of the pipe that ./ltd reads. So the read is not broken off,
+as by a signal that comes together with data."""
 
 
 def listening() -> None:
@@ -122,7 +144,7 @@ class Endings(DeskTest):
     def test_an_ended_command_leaves_nothing(self) -> None:
         os.mkfifo(self.folder / "slow.csv")
         words = [sys.executable, str(LTD), "pack", "slow.csv", "x.claims", *WINDOW_WORDS]
-        for number, status in ((signal.SIGTERM, 143), (signal.SIGINT, 130), (signal.SIGHUP, 129)):
+        for number, status in ENDED:
             run = subprocess.Popen(words, cwd=self.folder, stderr=subprocess.PIPE, preexec_fn=listening)
             with open(self.folder / "slow.csv", "w", encoding="utf-8") as slow:
                 slow.write((PORTFOLIO / "claims.csv").read_text())
@@ -134,6 +156,30 @@ class Endings(DeskTest):
             self.assertEqual(run.stderr.read(), b"")
             run.stderr.close()
             self.assertEqual(self.names(), ["slow.csv"])
+
+    def test_a_signal_that_comes_with_more_of_an_open_pipe(self) -> None:
+        words = [sys.executable, "-c", HEARD_ASIDE, str(LTD), "pack", "slow.csv", "x.claims", *WINDOW_WORDS]
+        for number, status in ENDED:
+            with subprocess.Popen(words, cwd=self.folder, stdin=subprocess.PIPE, stderr=subprocess.PIPE, preexec_fn=listening) as run:
+                assert run.stdin is not None and run.stderr is not None
+                with self.open_pipe() as pipe:
+                    os.write(pipe, (PORTFOLIO / "claims.csv").read_bytes())
+                    self.wait_until_read(pipe)
+                    run.stdin.write(b"%d" % number)
+                    run.stdin.flush()
+                    self.assertEqual(run.wait(timeout=30), status)
+                self.assertEqual(run.stderr.read(), b"")
+            self.assertEqual(self.names(), ["slow.csv"])
+
+    def test_a_header_is_refused_while_its_pipe_is_open(self) -> None:
+        words = [sys.executable, str(LTD), "pack", "slow.csv", "x.claims", *WINDOW_WORDS]
+        with subprocess.Popen(words, cwd=self.folder, stderr=subprocess.PIPE) as run:
+            assert run.stderr is not None
+            with self.open_pipe() as pipe:
+                os.write(pipe, b"foo,bar\n1,2\n")
+                self.assertEqual(run.wait(timeout=30), 1)
+            self.assertIn(b"line 1: no such column: 'foo'", run.stderr.read())
+        self.assertEqual(self.names(), ["slow.csv"])
 
     def test_a_signal_that_is_ignored_stays_so(self) -> None:
         os.mkfifo(self.folder / "slow.csv")
@@ -160,6 +206,28 @@ class Endings(DeskTest):
             run.send_signal(signal.SIGINT)
             self.assertEqual(run.wait(timeout=30), -signal.SIGINT)
             self.assertEqual(run.stderr.read(), b"")
+
+    @contextmanager
+    def open_pipe(self) -> Iterator[int]:
+        """slow.csv, a pipe that stays open; whoever reads it is at its end after that."""
+        path = self.folder / "slow.csv"
+        if not path.exists():
+            os.mkfifo(path)
+        pipe = os.open(path, os.O_RDWR)
+        try:
+            yield pipe
+        finally:
+            os.close(pipe)
+
+    def wait_until_read(self, pipe: int) -> None:
+        """Until nothing is left in a pipe, thirty seconds at most."""
+        left = array("i", [0])
+        for _ in range(600):
+            fcntl.ioctl(pipe, termios.FIONREAD, left)
+            if left[0] == 0:
+                return
+            time.sleep(0.05)
+        self.fail("the pipe was not read")
 
     def wait_for_part(self) -> None:
         """Until the temporary file is there, ten seconds at most."""

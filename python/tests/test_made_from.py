@@ -1,6 +1,7 @@
 """The CSV that a claim file was packed from: kept with its hash beside the claim file, told by every page, and held against --made-from."""
 
 import hashlib
+import io
 import json
 import os
 import random
@@ -9,11 +10,11 @@ import subprocess
 import sys
 import threading
 import tomllib
-from typing import Dict, List, Tuple
+from typing import Any, Dict, List, Tuple
 
 from ltd_study import Claim
 from ltd_study.claim import COLUMNS
-from ltd_study.desk.side_files import made
+from ltd_study.desk.side_files import HashedReader, made
 
 from .support import LTD, PORTFOLIO, WINDOW, DeskTest, any_rates, claims_csv, sound_claims
 from .test_page import Page
@@ -48,6 +49,24 @@ class MadeFrom(DeskTest):
         """What a page says, in its paragraphs."""
         self.ltd(command, "x.claims", "r.bin", "--html", "p.html", *words)
         return Page((self.folder / "p.html").read_text(encoding="utf-8")).texts["p"]
+
+
+class Pieces(io.RawIOBase):
+    """A pipe that has a piece at a time."""
+
+    def __init__(self, pieces: List[bytes]) -> None:
+        super().__init__()
+        self.pieces = list(pieces)
+
+    def readable(self) -> bool:
+        """It is."""
+        return True
+
+    def readinto(self, buffer: Any) -> int:
+        """The next piece."""
+        piece = self.pieces.pop(0) if self.pieces else b""
+        buffer[: len(piece)] = piece
+        return len(piece)
 
 
 class Kept(MadeFrom):
@@ -102,6 +121,14 @@ class Kept(MadeFrom):
             words = f"{shlex.quote(sys.executable)} {shlex.quote(str(LTD))} pack /dev/stdin x.claims {' '.join(WINDOW_WORDS)}{more}"
             subprocess.run(["sh", "-c", f"cat many.csv | {words}"], cwd=self.folder, stdout=subprocess.DEVNULL, stderr=subprocess.DEVNULL, check=True)
             self.assertEqual((self.how()["csv"], self.how()["csv_sha256"]), ("/dev/stdin", sha256(data)))
+
+    def test_each_piece_of_a_pipe_is_handed_on_and_hashed(self) -> None:
+        pieces = [b"number,", b"x" * 900, b"\n", b"1"]
+        reader = HashedReader(io.BufferedReader(Pieces(pieces)))
+        self.assertEqual([reader.read(1000) for _ in range(5)], [*pieces, b""])
+        self.assertEqual(reader.sha256, sha256(b"".join(pieces)))
+        reader = HashedReader(io.BufferedReader(Pieces(pieces)))
+        self.assertEqual((io.BufferedReader(reader).read(), reader.sha256), (b"".join(pieces), sha256(b"".join(pieces))))
 
     def test_odd_names(self) -> None:
         for name in (b'a"b\\c\x7f\n.csv', b"\xe9.csv", "\u00e9.csv".encode()):

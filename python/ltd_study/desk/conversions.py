@@ -123,7 +123,7 @@ def rates_unpack(asked: Namespace) -> int:
 
 
 @contextmanager
-def _opened(what: str, path: str) -> Iterator[BinaryIO]:
+def _opened(what: str, path: str) -> Iterator[io.BufferedReader]:
     try:
         stream = open(path, "rb")
     except FileNotFoundError:

@@ -58,7 +58,7 @@ class Made(NamedTuple):
 class HashedReader(io.RawIOBase):
     """A stream to read, with the fingerprint of what was read."""
 
-    def __init__(self, stream: BinaryIO) -> None:
+    def __init__(self, stream: io.BufferedReader) -> None:
         super().__init__()
         self._stream, self._hash = stream, hashlib.sha256()
 
@@ -67,8 +67,8 @@ class HashedReader(io.RawIOBase):
         return True
 
     def readinto(self, buffer: Any) -> int:
-        """Reads, and adds to the fingerprint."""
-        data = self._stream.read(len(buffer))
+        """Reads what is there, and adds it to the fingerprint. It doesn't wait for more of a pipe: a signal would wait as well."""
+        data = self._stream.read1(len(buffer))
         self._hash.update(data)
         buffer[: len(data)] = data
         return len(data)
