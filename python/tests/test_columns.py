@@ -4,7 +4,7 @@ import random
 import unittest
 from array import array
 from datetime import date, datetime
-from typing import Any, Callable, Iterator, List
+from typing import Any, Callable, Dict, Iterator, List, Optional, Tuple
 
 from ltd_study import Claim, ClaimFile, Claims, NoDate, Rates, Refused, Study, factor, file_study, listing, listings, load, small_company
 from ltd_study.claim import COLUMNS
@@ -13,6 +13,7 @@ from ltd_study.dates import is_missing, number_of, record_date
 from .support import WINDOW, any_claim, any_rates, claim_file, least_time, sound_claims
 
 ROWS = 500_000
+MOST_SECONDS = 1.0
 TIMES_QUICKER = 6
 """Half a million rows are asked for in a second where building as many claims takes six."""
 
@@ -151,6 +152,15 @@ class Frame:
 def as_columns(claims: List[Claim]) -> "dict[str, list[Any]]":
     """The fields of claims, column by column."""
     return {name: [getattr(claim, name) for claim in claims] for name in COLUMNS}
+
+
+def half_a_million() -> Tuple[List[date], List[str], List[Optional[date]], Dict[str, Any]]:
+    """Days, the same as texts, those of closed claims, and the other columns by name."""
+    days = [date(1990 + i % 20, 1 + i % 12, 1 + i % 28) for i in range(ROWS)]
+    words = [("closed", "open")[i % 2] for i in range(ROWS)]
+    closed = [None if i % 2 else day for i, day in enumerate(days)]
+    others = {"status": words, "code": ["recovery"] * ROWS, "cell": array("H", bytes(2 * ROWS)), "benefit": [25] * ROWS}
+    return days, list(map(str, days)), closed, others
 
 
 class OtherValues(unittest.TestCase):
@@ -295,15 +305,18 @@ class Columns(unittest.TestCase):
         for row in (-1, len(found)):
             self.assertRaises(IndexError, found.claim, row)
 
+    def test_half_a_million_within_a_second(self) -> None:
+        days, texts, closed, others = half_a_million()
+        seconds, found = least_time(lambda: Claims(range(ROWS), days, texts, closed, **others))
+        self.assertLess(seconds, MOST_SECONDS)
+        last = Claim(ROWS - 1, days[-1], days[-1], None, None, "open", "recovery", 0, 25)
+        self.assertEqual((len(found), found.claim(ROWS - 1)), (ROWS, last))
+
     def test_half_a_million_six_times_quicker_than_one_by_one(self) -> None:
-        days = [date(1990 + i % 20, 1 + i % 12, 1 + i % 28) for i in range(ROWS)]
-        texts = list(map(str, days))
-        words = [("closed", "open")[i % 2] for i in range(ROWS)]
-        closed = [None if i % 2 else day for i, day in enumerate(days)]
-        others = {"status": words, "code": ["recovery"] * ROWS, "cell": array("H", bytes(2 * ROWS)), "benefit": [25] * ROWS}
+        days, texts, closed, others = half_a_million()
 
         def one_by_one() -> bytes:
-            rows = zip(range(ROWS // 10), days, texts, closed, words)
+            rows = zip(range(ROWS // 10), days, texts, closed, others["status"])
             return b"".join(Claim(i, day, text, end, None, word, "recovery", 0, 25).record for i, day, text, end, word in rows)
 
         tenth, records = least_time(one_by_one)
