@@ -2,9 +2,10 @@
 
 import hashlib
 import io
-from collections import Counter
-from typing import Dict, List, Tuple
+import struct
+from typing import Dict, List, Set, Tuple
 
+from ..claim_columns import Claims
 from ..claim_file import ClaimFile
 from ..refusals import Refused
 from . import claims_csv
@@ -41,7 +42,8 @@ def read_claim_list(path: str, limit: int, so: str) -> Tuple[List[bytes], Source
     source = Source("claims", path, sha256, *made(path, sha256))
     if data.startswith(_BLOCK_0):
         try:
-            return [record.data for record in ClaimFile(data).records()], source
+            file = ClaimFile(data)
+            return list(Claims.of_records(b"".join(map(file.records_of, range(1, file.last_block + 1))))), source
         except Refused as refused:
             raise DataRefused(f"'{path}': {refused}") from None
     faults = Faults(limit)
@@ -55,9 +57,13 @@ def number_in(record: bytes) -> int:
     return int.from_bytes(record[:4], "little")
 
 
-def repeated_among(records: List[bytes]) -> List[int]:
+def repeated_among(claims: Claims) -> List[int]:
     """The claim numbers that stand more than once, in rising order."""
-    return sorted(number for number, times in Counter(map(number_in, records)).items() if times > 1)
+    seen: Set[int] = set()
+    twice: Set[int] = set()
+    for (number,) in struct.iter_unpack("<I28x", claims.data):
+        (twice if number in seen else seen).add(number)
+    return sorted(twice)
 
 
 def last_of_each(records: List[bytes]) -> List[bytes]:

@@ -3,6 +3,7 @@
 from argparse import Namespace
 from typing import Any, Dict, List
 
+from ..claim_columns import Claims
 from ..company_rule import SmallCompany, small_company
 from ..refusals import Refused
 from ..study import GROUPS
@@ -23,13 +24,14 @@ def small_company_rule(asked: Namespace) -> int:
     new, old = given_t(asked, "new"), given_t(asked, "old")
     records, source = read_claim_list(asked.claims, asked.limit, "nothing is counted")
     records = last_of_each(records) if asked.corrected else records
-    repeated = repeated_among(records)
+    claims = Claims.of_records(b"".join(records))
+    repeated = repeated_among(claims)
     try:
         small_company(asked.valuation_date, [], new.t, old.t)
     except Refused as refused:
         raise WrongUse(f"--valuation-date {asked.valuation_date}: {refused}") from None
     try:
-        found = small_company(asked.valuation_date, records, new.t, old.t)
+        found = small_company(asked.valuation_date, claims, new.t, old.t)
     except Refused as refused:
         raise DataRefused(_refused_claim(asked, records, refused)) from None
     if asked.json:
