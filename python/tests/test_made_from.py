@@ -163,6 +163,14 @@ class Kept(MadeFrom):
             self.assertTrue(said.endswith(f"ltd: '{name}' is the input '{name}' itself: it would be destroyed, and nothing is written there\n"), said)
             self.assertEqual({name: (self.folder / name).read_bytes() for name in self.names()}, before)
 
+    def test_where_it_cannot_be_written_nothing_is(self) -> None:
+        (self.folder / "y.how.toml").mkdir()
+        before = self.names()
+        long = "y" * 250
+        for name, why in (("y", "'y.how.toml' is a folder"), (long, f"'{long}.how.toml': File name too long")):
+            ended = self.ltd("pack", "in.csv", name, *WINDOW_WORDS, status=2)
+            self.assertEqual((ended.out, ended.err, self.names()), ("", f"ltd: {why}\n", before))
+
 
 class HeldAgainst(MadeFrom):
     """--made-from names what was kept, or is refused."""
@@ -188,6 +196,12 @@ class HeldAgainst(MadeFrom):
             for more in (("--html", "q.html"), ("--json",), ()):
                 self.assertEqual(self.refused((*words, *more), "in.csv", "other.csv"), want)
         self.assertEqual(self.refused(("years", "--closings", "c.csv", "--html", "q.html"), "other.csv"), want)
+
+    def test_a_file_that_is_not_there(self) -> None:
+        for words in PAGES:
+            for more in (("--html", "q.html"), ("--json",), ()):
+                ended = self.ltd(*words, *more, "x.claims", "r.bin", "--made-from", "nowhere", status=2)
+                self.assertEqual((ended.out, ended.err.splitlines()[-1]), ("", "ltd: there is no file 'nowhere'"))
 
     def test_the_map(self) -> None:
         self.file("other.toml", "x")
